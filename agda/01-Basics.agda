@@ -126,11 +126,9 @@ module _ {A : Set} where
   ++-nil : (xs : List A) → xs ++ [] ≡ xs
   ++-nil [] = refl
   ++-nil (x ∷ xs) = cong (x ∷_) (++-nil xs)
-  filled-right : (xs : List A) {ys : List A} → ys ≢ [] → xs ++ ys ≢ []
-  filled-right [] f = f
-  filled-right (x ∷ xs) f ()
   ++-filled : (xs : List A) {y : A} {ys : List A} → xs ++ y ∷ ys ≢ []
-  ++-filled xs = filled-right xs λ ()
+  ++-filled [] ()
+  ++-filled (x ∷ xs) ()
   filled-left : (xs : List A) {ys : List A} → xs ≢ [] → xs ++ ys ≢ []
   filled-left [] f e = f refl
   filled-left (x ∷ xs) f ()

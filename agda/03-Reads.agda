@@ -48,27 +48,38 @@ may-precede lo one [] None p = p
 may-precede lo one [] (Some a) (p , q) = p , refl
 may-precede lo one (c ∷ n) a p = p
 
+-- A text that begins with a character's bytes has that first character.
+first-is : ∀ c more {t char} → encode c ≡ char → t ≡ char ++ more → first-char t ≡ char
+first-is c more refl refl rewrite decoded c more = refl
+
 module _ (g : Grammar) where
 
+  -- This is the word's step, and a loop gives next what this step gives. That isn't so in short
+  -- form, because a loop gives the options of a cluster one by one.
+  HasStep : Text → List Text → Step → Set
+  HasStep w ws s = (step g w ws ≡ s)
+    × (next-word g w (mk [] ws None) ≡ next-by-step g (mk [] ws None) s)
+
   long-form : ∀ d t ws → MayPrecede (g .$long-only) d t → t ≢ []
-    → step g (dash-text d ++ t) ws ≡ long-step g d t ws
+    → HasStep (dash-text d ++ t) ws (long-step g d t ws)
   long-form d [] ws p filled = absurd (filled refl)
-  long-form two (c ∷ t) ws p filled = refl
-  long-form one (c ∷ t) ws (mode , no-dash) filled rewrite no-dash | mode = refl
+  long-form two (c ∷ t) ws p filled = refl , refl
+  long-form one (c ∷ t) ws (mode , no-dash) filled rewrite no-dash | mode = refl , refl
 
   long-form-step : ∀ d n a ws → MayPrecede (g .$long-only) d n → holds-equals n ≡ false
     → n ++ with-equals a ≢ []
-    → step g (long-word d n a) ws ≡ long-name-step ((g .$kind) n) d n a ws
-  long-form-step d n a ws p e filled =
-    long-form d (n ++ with-equals a) ws (may-precede _ d n a p) filled
-    ∙ cong (λ (name , a) → long-name-step ((g .$kind) name) d name a ws) (cut-whole n a e)
+    → HasStep (long-word d n a) ws (long-name-step ((g .$kind) n) d n a ws)
+  long-form-step d n a ws p e filled = subst (HasStep (long-word d n a) ws)
+    (cong (λ (name , a) → long-name-step ((g .$kind) name) d name a ws) (cut-whole n a e))
+    (long-form d (n ++ with-equals a) ws (may-precede _ d n a p) filled)
 
   -- Words in short form ---------------------------------------------------------------------------
 
   short-form : ∀ t ws → g .$long-only ≡ false → begins-with-dash t ≡ false → t ≢ []
-    → step g (dash ∷ t) ws ≡ cluster-step g [] t ws
+    → (step g (dash ∷ t) ws ≡ cluster-step g [] t ws)
+    × (next-word g (dash ∷ t) (mk [] ws None) ≡ next-option g t ws None)
   short-form [] ws mode no-dash filled = absurd (filled refl)
-  short-form (c ∷ t) ws mode no-dash filled rewrite no-dash | mode = refl
+  short-form (c ∷ t) ws mode no-dash filled rewrite no-dash | mode = refl , refl
 
   flags-read : ∀ front bs t ws → Each (IsFlag g) bs
     → cluster-step g front (bs ++ t) ws ≡ cluster-step g (front ++ bs) t ws
@@ -80,14 +91,15 @@ module _ (g : Grammar) where
   after-flags : ∀ bs t ws → g .$long-only ≡ false → begins-with-dash (bs ++ t) ≡ false
     → bs ++ t ≢ [] → Each (IsFlag g) bs → step g (dash ∷ bs ++ t) ws ≡ cluster-step g bs t ws
   after-flags bs t ws mode no-dash filled all =
-    short-form (bs ++ t) ws mode no-dash filled ∙ flags-read [] bs t ws all
+    short-form (bs ++ t) ws mode no-dash filled .proj₁ ∙ flags-read [] bs t ws all
 
   -- Each valid item is what the step takes --------------------------------------------------------
 
-  free-word-step : ∀ w ws → is-dashed w ≡ false → step g w ws ≡ free-step (g .$style) w ws
-  free-word-step [] ws e = refl
-  free-word-step (c ∷ []) ws e = refl
-  free-word-step (c ∷ d ∷ t) ws e rewrite e = refl
+  free-form : ∀ w ws {s} → is-dashed w ≡ false → g .$style ≡ s
+    → HasStep w ws (free-step s w ws)
+  free-form [] ws plain refl = refl , refl
+  free-form (c ∷ []) ws plain refl = refl , refl
+  free-form (c ∷ d ∷ t) ws plain refl rewrite plain = refl , refl
 
   long-chosen : ∀ k n a more → FitsLong k a
     → chosen-long k n (attached-argument a) (argument-words a ++ more) ≡ Ok a
@@ -97,43 +109,52 @@ module _ (g : Grammar) where
   long-chosen Maybe n none more fits = refl
   long-chosen Maybe n (attached x) more fits = refl
 
-  end-chosen : ∀ bs o a k more → (g .$kind) (o ∷ []) ≡ Some k → FitsEnd k a
-    → (is-bare (cluster bs (ends-in o a)) ≡ true → EndsOrIsDashed more)
-    → cluster-step g bs (end-text (ends-in o a)) (argument-words a ++ more)
-      ≡ takes (cluster bs (ends-in o a)) a
-  end-chosen bs o none .Maybe [] e refl _ rewrite e = refl
-  end-chosen bs o none .Maybe (w ∷ ws) e refl followed rewrite e | followed refl = refl
+  end-chosen : ∀ bs o a k more {s} → (g .$kind) (o ∷ []) ≡ Some k → FitsEnd k a
+    → (a ≡ none → EndsOrIsDashed more)
+    → let kind = (g .$kind) (o ∷ []) ; t = unwrap-or (attached-argument a) [] in
+      (byte-step kind bs o t (argument-words a ++ more) s ≡ takes (cluster bs (ends-in o a)) a)
+      × (names-after kind t ≡ [])
+  end-chosen bs o none .Maybe [] e refl _ rewrite e = refl , refl
+  end-chosen bs o none .Maybe (w ∷ ws) e refl followed rewrite e | followed refl = refl , refl
   end-chosen bs o (attached _) No more e (no , _) _ = absurd (no refl)
   end-chosen bs o (attached []) k more e (_ , filled) _ = absurd (filled refl)
-  end-chosen bs o (attached (x ∷ t)) Yes more e fits _ rewrite e = refl
-  end-chosen bs o (attached (x ∷ t)) Maybe more e fits _ rewrite e = refl
+  end-chosen bs o (attached (x ∷ t)) Yes more e fits _ rewrite e = refl , refl
+  end-chosen bs o (attached (x ∷ t)) Maybe more e fits _ rewrite e = refl , refl
   end-chosen bs o (separate w) No more e (no , _) _ = absurd (no refl)
-  end-chosen bs o (separate w) Yes more e fits _ rewrite e = refl
-  end-chosen bs o (separate w) Maybe more e (_ , plain) _ rewrite e | plain refl = refl
+  end-chosen bs o (separate w) Yes more e fits _ rewrite e = refl , refl
+  end-chosen bs o (separate w) Maybe more e (_ , plain) _ rewrite e | plain refl = refl , refl
+
+  long-taken : ∀ d n a more → Sane g → IsLawfulItem g (long d n a)
+    → HasStep (long-word d n (attached-argument a)) (argument-words a ++ more)
+      (takes (long d n a) a)
+  long-taken d n a more sane (mk p e (k , r , fits)) = subst
+    (HasStep (long-word d n (attached-argument a)) _)
+    (cong (λ k → long-name-step k d n (attached-argument a) (argument-words a ++ more)) r
+    ∙ cong (chosen-step (long d n)) (long-chosen k n a more fits))
+    (long-form-step d n (attached-argument a) _ p e
+      (filled-left n λ { refl → None≢Some (sane .no-empty) r }))
 
   -- An item's first step takes it, and `read` goes on after its words.
   item-read : ∀ i more → Sane g → IsLawfulItem g i → (is-bare i ≡ true → EndsOrIsDashed more)
     → read g (item-words i ++ more) ≡ with-items (i ∷ []) (read g more)
-  item-read (free w) more sane (plain , style) _ rewrite free-word-step w more plain | style = refl
-  item-read (long d n a) more sane (mk p e (k , r , fits)) _ =
-    cong (λ s → after g s (argument-words a ++ more))
-      (long-form-step d n (attached-argument a) _ p e
-        (filled-left n λ { refl → None≢Some (sane .no-empty) r })
-      ∙ cong (λ k → long-name-step k d n (attached-argument a) (argument-words a ++ more)) r
-      ∙ cong (chosen-step (long d n)) (long-chosen k n a more fits))
+  item-read (free w) more sane (plain , style) _ =
+    cong (λ s → after g s more) (free-form w more plain style .proj₁)
+  item-read (long d n a) more sane lawful _ =
+    cong (λ s → after g s (argument-words a ++ more)) (long-taken d n a more sane lawful .proj₁)
     ∙ taken g (long d n a) a more
   item-read (cluster bs flags) more sane (mk mode no-dash all filled) _ =
     cong (λ s → after g s more) (after-flags bs [] more mode no-dash (filled-left bs filled) all)
   item-read (cluster bs (ends-in o a)) more sane (mk mode no-dash all (k , e , fits)) followed =
     cong (λ s → after g s (argument-words a ++ more))
       (after-flags bs _ _ mode no-dash (++-filled bs) all
-      ∙ end-chosen bs o a k more e fits followed)
+      ∙ end-chosen bs o a k more e fits (λ { refl → followed refl }) .proj₁)
     ∙ taken g (cluster bs (ends-in o a)) a more
 
   tail-read : ∀ t → IsLawfulTail g t → read g (tail-words t) ≡ Ok (mk [] t)
   tail-read no-tail _ = refl
   tail-read (stop ws) _ = refl
-  tail-read (rest (w ∷ ws)) (plain , style) rewrite free-word-step w ws plain | style = refl
+  tail-read (rest (w ∷ ws)) (plain , style) =
+    cong (λ s → after g s ws) (free-form w ws plain style .proj₁)
 
   -- A reading is what `read` finds, item by item. So there is at most one.
   reading-read : ∀ {r words} → Sane g → IsReading g r words → read g words ≡ Ok r
@@ -147,50 +168,49 @@ module _ (g : Grammar) where
 
   -- Words with an error ---------------------------------------------------------------------------
 
+  -- A word has an error. In short form, the error is at the first byte after flags.
+  data Fails (w : Text) (ws : List Text) (f : Fault) : Set where
+    at-word : HasStep w ws (faults f) → Fails w ws f
+    at-byte : ∀ b {t} → HasAfterFlags g w (b ∷ t)
+      → (∀ bs s → byte-step ((g .$kind) (b ∷ [])) bs b t ws s ≡ faults f) → Fails w ws f
+
+  fails-step : ∀ {w ws f} → Fails w ws f → step g w ws ≡ faults f
+  fails-step (at-word is) = is .proj₁
+  fails-step (at-byte b (mk bs mode refl no-dash all) e) =
+    after-flags bs _ _ mode no-dash (++-filled bs) all ∙ e bs _
+
   long-fault : ∀ {w ws n a k} → (lf : IsLongForm g w n a) → (g .$kind) n ≡ k
-    → step g w ws ≡ long-name-step k (lf .$dashes) n a ws
+    → HasStep w ws (long-name-step k (lf .$dashes) n a ws)
   long-fault {n = n} {a} (mk d p e refl filled) refl = long-form-step d n a _ p e
     λ empty → filled (cong (dash-text d ++_) empty ∙ ++-nil (dash-text d))
 
-  short-fault : ∀ {w ws f} t → HasAfterFlags g w t → t ≢ []
-    → (∀ bs → cluster-step g bs t ws ≡ faults f) → step g w ws ≡ faults f
-  short-fault t (mk bs mode refl no-dash all) filled e =
-    after-flags bs t _ mode no-dash (filled-right bs filled) all ∙ e bs
+  unknown-fails : ∀ {w ws} b {t char} → HasAfterFlags g w (b ∷ t) → (g .$kind) (b ∷ []) ≡ None
+    → first-char (b ∷ t) ≡ char → Fails w ws (unrecognized-option char)
+  unknown-fails b hf absent refl = at-byte b hf λ bs s → cong (λ k → byte-step k bs b _ _ s) absent
 
-  byte-fault : ∀ b {t ws} c {char} more bs → (g .$kind) (b ∷ []) ≡ None → encode c ≡ char
-    → b ∷ t ≡ char ++ more → cluster-step g bs (b ∷ t) ws ≡ faults (unrecognized-option char)
-  byte-fault b {t} c more bs absent bytes is rewrite absent =
-    cong (λ char → faults (unrecognized-option char)) (first-decoded (b ∷ t) (cong chars
-      (is ∙ cong (_++ more) (sym bytes)) ∙ decoded c more) ∙ bytes)
+  -- Each error of `IsFaultAt` is such an error.
+  fault-fails : ∀ {w ws f} → Sane g → IsFaultAt g w ws f → Fails w ws f
+  fault-fails sane (unknown-name n a lf absent) = at-word (long-fault lf absent)
+  fault-fails sane (unwanted-argument n a lf no) = at-word (long-fault lf no)
+  fault-fails sane (long-unfinished n lf yes refl) = at-word (long-fault lf yes)
+  fault-fails sane (short-unfinished o hf yes refl) =
+    at-byte o hf λ bs s → cong (λ k → byte-step k bs o [] [] s) yes
+  fault-fails sane (unknown-byte b more low hf absent) =
+    unknown-fails b hf absent (first-is b more (narrow b (<→ltb low)) refl)
+  fault-fails {w} {ws} sane (wide-character c more _ several hf) =
+    go (wide c (not-narrow c several))
     where
-      first-decoded : ∀ t {cs} → chars t ≡ c ∷ cs → first-char t ≡ encode c
-      first-decoded t e rewrite e = refl
-
-  -- The step of a word with an error is that error.
-  fault-step : ∀ {w ws f} → Sane g → IsFaultAt g w ws f → step g w ws ≡ faults f
-  fault-step sane (unknown-name n a lf absent) = long-fault lf absent
-  fault-step sane (unwanted-argument n a lf no) = long-fault lf no
-  fault-step sane (long-unfinished n lf yes refl) = long-fault lf yes
-  fault-step sane (short-unfinished o hf yes refl) = short-fault _ hf (λ ()) at
-    where
-      at : ∀ bs → cluster-step g bs (o ∷ []) [] ≡ faults (argument-missing (o ∷ []))
-      at bs rewrite yes = refl
-  fault-step sane (unknown-byte b more low hf absent) = short-fault _ hf (λ ())
-    λ bs → byte-fault b b more bs absent (narrow b (<→ltb low)) refl
-  fault-step {w} {ws} sane (wide-character c more _ long-enough hf) =
-    go (wide c (not-narrow c long-enough))
-    where
-      go : Wide c → step g w ws ≡ faults (unrecognized-option (encode c))
-      go (b , b₂ , bs , is , high) = short-fault _
-        (subst (λ t → HasAfterFlags g w (t ++ more)) is hf) (λ ()) λ front →
-          byte-fault b c more front (sane .no-high b (subst (Each IsHigh) is high .proj₁)) refl
-            (cong (_++ more) (sym is))
+      go : Wide c → Fails w ws (unrecognized-option (encode c))
+      go (b , b₂ , bs , is , high) = unknown-fails b
+        (subst (λ t → HasAfterFlags g w (t ++ more)) is hf)
+        (sane .no-high b (subst (Each IsHigh) is high .proj₁))
+        (first-is c more refl (cong (_++ more) (sym is)))
 
   -- A word whose step is an error is dashed.
   fault-dashed : ∀ w ws {f} → step g w ws ≡ faults f → is-dashed w ≡ true
   fault-dashed w ws e with split (is-dashed w)
   ... | inl dashed = dashed
-  ... | inr plain with g .$style | sym (free-word-step w ws plain) ∙ e
+  ... | inr plain with g .$style | sym (free-form w ws plain refl .proj₁) ∙ e
   ...   | FloatingFrees | ()
   ...   | StopAtFirstFree | ()
 
@@ -215,7 +235,7 @@ fault-read : ∀ {g words f} → Sane g → IsScanFault g words f → read g wor
 fault-read {g} {f = f} sane (mk _ w ws items refl (mk refl all _ followed) fault) =
   cong (read g) (spelled-then items (w ∷ ws)) ∙ go items all followed
   where
-    the-step = fault-step g sane fault
+    the-step = fails-step g (fault-fails g sane fault)
     go : ∀ items → Each (IsLawfulItem g) items → AreWellFollowed items []
       → read g (spelled-all items (w ∷ ws)) ≡ Err f
     go [] _ _ = cong (λ s → after g s ws) the-step

@@ -53,14 +53,6 @@ main-found : ∀ ns n k x → main-place ns n ≡ Some k → slice-get ns k ≡ 
 main-found ns n k x e at with position-some (is-main n) ns k e
 ... | y , at-y , is = cong main-name (some (sym at ∙ at-y)) ∙ bytes-equal (main-name y) n is
 
--- A name resolves to the place of some group.
-place-valid : ∀ ns n p → resolution ns n ≡ Some p → Σ[ x ∈ Names ] slice-get ns p ≡ Some x
-place-valid ns n p e with main-place ns n in m | find (is-alias n) ns
-place-valid ns n p refl | Some _ | _ with position-some (is-main n) ns p m
-... | x , at , _ = x , at
-place-valid ns n p e | None | Some y with position-some (is-main (main-name y)) ns p e
-... | x , at , _ = x , at
-
 -- What the main theorem needs of a group: it has a name, and no name is one byte of a longer
 -- character.
 IsNamed : Names → Set

@@ -13,6 +13,7 @@ import 06-Accepted
 import 07-Canonical
 import 08-Laws
 import 09-Computed
+import 10-Loops
 import 10-Rows
 
 module _ (options : Declared) where
@@ -40,8 +41,14 @@ module _ (options : Declared) where
       open 07-Canonical.Lines options named
 
   -- Options that may be declared have such names.
+  declared-named : MayBeDeclared gs → Each IsNamed ns
+  declared-named declared = each-map is-named _ (valid-groups gs declared)
+
   declared-theorem : MayBeDeclared gs → OneReadingOneCanonicalLine options
-  declared-theorem declared = main-theorem (each-map is-named _ (valid-groups gs declared))
+  declared-theorem declared = main-theorem (declared-named declared)
+
+  loop-gives : MayBeDeclared gs → ∀ line → _
+  loop-gives declared = 10-Loops.loop-gives options (sane-groups options (declared-named declared))
 
   names-resolve : MayBeDeclared gs → NamesResolve options
   names-resolve declared = mk (main-name-resolves ns) (one-byte-is-short ns valid)
@@ -74,5 +81,7 @@ laws = λ where
     .$equal-input-equal-results → mk 09-Computed.one-parse-result 09-Computed.one-canonical-result
     .$results-are-computed → mk λ options words declared →
       declared-theorem options declared .$results words
+    .$traces-are-orders → mk (λ options line declared → loop-gives options declared line .proj₁)
+      (λ options line fault declared → loop-gives options declared line .proj₂ fault)
     .$usage-texts-are-computed → mk usage-text-is usage-rows description fewest-rows
   where open 10-Rows str-width

@@ -3,14 +3,17 @@
 
 ghost use Rattle.getopts.specs.Canon.{Content, Says, IsSound, IsPlain, HasCanonicalLine, with_setting};
 ghost use Rattle.getopts.specs.declared.kinds.ParsingStyle.{ParsingStyle};
-ghost use Rattle.std.specs.Prelude.{ℕ, List, Bool};
+ghost use Rattle.std.specs.Prelude.{◌≡◌, ℕ, List, Bool, Err};
 ghost use Rattle.getopts.specs.Accessors.{held_names};
 ghost use Rattle.getopts.specs.Parse.{IsParseResult, IsCanonicalResult, KeepsLineLaws, HasResults};
+ghost use Rattle.getopts.specs.Fail.{Fault};
 ghost use Rattle.getopts.specs.Names.{Text, AreTexts, MainNameResolves, OneByteIsShort};
 ghost use Rattle.getopts.specs.Names.{EmptyResolvesNot};
 ghost use Rattle.getopts.specs.Only.{AtMostOne, IsTheOnly};
 ghost use Rattle.getopts.specs.Options.{Declared, MayBeDeclared, names_of, grammar_of};
+ghost use Rattle.getopts.specs.Reader.{PrecedeError, given_in, order_in, trace, whole};
 ghost use Rattle.getopts.specs.ReadingLaws.{KeepsReadingLaws};
+ghost use Rattle.getopts.specs.Results.{order_or_error};
 ghost use Rattle.getopts.specs.Theorem.{OneReading, AcceptedExactlyWhen, RefusedExactlyWhen};
 ghost use Rattle.getopts.specs.Theorem.{HaveResults, OneContentHoldsSame, LinesReadAgain};
 ghost use Rattle.getopts.specs.Theorem.{OneLineOneContent};
@@ -135,6 +138,19 @@ pub fn equal_input_equal_results()
 pub fn results_are_computed()
     ensures results { (options : Declared) (words : List Text) → MayBeDeclared options.groups
         → AreTexts words → HasResults options words }
+{}
+
+/// What a loop gives of a whole line. This is a lemma for proofs, which does nothing.
+///
+/// It has the options and free words that `parse_in_order` returns, in the same order, and ends at
+/// the same error, except that counts aren't checked. Before an error, it has the options and free
+/// words of the line up to there.
+pub fn traces_are_orders()
+    ensures order { (options : Declared) (line : List Text) → MayBeDeclared options.groups
+        → order_in (trace options (whole line)) ≡ order_or_error options line }
+    ensures before_error { (options : Declared) (line : List Text) (fault : Fault)
+        → MayBeDeclared options.groups → order_or_error options line ≡ Err fault
+        → PrecedeError options line (given_in (trace options (whole line))) fault }
 {}
 
 /// The rows of descriptions and the usage texts are those that functions such as `usage_result`

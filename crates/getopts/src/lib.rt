@@ -66,6 +66,7 @@ pub type Result = std::result::Result<Matches, Fail>;
 // Other callers don't need them.
 pub use laws::{
     declared_options_keep_laws, equal_input_equal_results, held_names_resolve, names_resolve,
-    one_reading_one_canonical_line, results_are_computed, usage_texts_are_computed,
+    one_reading_one_canonical_line, results_are_computed, traces_are_orders,
+    usage_texts_are_computed,
 };
-pub use scan::{traces_are_orders, words_are_texts};
+pub use scan::words_are_texts;

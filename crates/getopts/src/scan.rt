@@ -5,18 +5,15 @@ ghost use Rattle.std.specs.Prelude.{IfErr, IfSome, IfNone, Some, None, Ok, Err, 
 ghost use Rattle.std.specs.String.{string_bytes};
 ghost use Rattle.std.specs.Option.{option_copied, option_map};
 ghost use Rattle.getopts.specs.Reading.{Dashes, holds_equals, is_dashed, tail_frees};
-ghost use Rattle.getopts.specs.Reader.{AreLast, EndsInFrees, ended, left_in, next_option, PrecedeError, given_in};
-ghost use Rattle.getopts.specs.Reader.{order_in, size_of, trace, trace_from, whole};
+ghost use Rattle.getopts.specs.Reader.{AreLast, EndsInFrees, ended, left_in, next_option, size_of, trace, trace_from};
 ghost use Rattle.getopts.specs.Scan.{tail_of, words_left};
 ghost use Rattle.getopts.specs.Accessors.{borrowed_given};
-ghost use Rattle.getopts.specs.Fail.{IsOutOfMemoryOr, Fault};
+ghost use Rattle.getopts.specs.Fail.{IsOutOfMemoryOr};
 ghost use Rattle.getopts.specs.Names.{AreTexts, Text};
 ghost use Rattle.getopts.specs.Step.{with_equals, first_char, chosen_long, chosen_end, Chooses, Step};
 ghost use Rattle.getopts.specs.Step.{name_step, faults};
 ghost use Rattle.getopts.specs.Parse.{IsDeclared, ReturnsConverted};
 ghost use Rattle.getopts.specs.declared.kinds.ParsingStyle.TheVariants.{StopAtFirstFree};
-ghost use Rattle.getopts.specs.Options.{Declared, MayBeDeclared};
-ghost use Rattle.getopts.specs.Results.{order_or_error};
 
 use crate::fail::Fail;
 use crate::kinds::{HasArg, ParsingStyle};
@@ -652,16 +649,3 @@ impl<'o> Reader<'o> {
         }
     }
 }
-
-/// What a loop gives of a whole line. This is a lemma for proofs, which does nothing.
-///
-/// It has the options and free words that `parse_in_order` returns, in the same order, and ends at
-/// the same error, except that counts aren't checked. Before an error, it has the options and free
-/// words of the line up to there.
-pub fn traces_are_orders()
-    ensures order { (options : Declared) (line : List Text) → MayBeDeclared options.groups
-        → order_in (trace options (whole line)) ≡ order_or_error options line }
-    ensures before_error { (options : Declared) (line : List Text) (fault : Fault)
-        → MayBeDeclared options.groups → order_or_error options line ≡ Err fault
-        → PrecedeError options line (given_in (trace options (whole line))) fault }
-{}
