@@ -1,6 +1,6 @@
 //! A program that runs another: its own options, then a command with its words, as in
 //! `env -u HOME ls -l`. The command's words aren't read. Help is given at once, even if a later
-//! word is an error.
+//! word is an error. A loop doesn't check how often options occur, so this one counts `-C` itself.
 
 ghost use Rattle.std.specs.Prelude.{◌≡◌, IfOk, map};
 ghost use Rattle.getopts.specs.Parse.{ReturnsConverted};
@@ -11,15 +11,20 @@ use getopts::{Fail, Given, Options, ParsingStyle, Unread};
 use std::alloc::{AllocError, Global};
 use std::convert::AsStr;
 
-/// What a command line runs.
+/// What a command line runs, and how.
 #[derive(Debug, Drop)]
 pub struct Launch<'w, S> {
-    pub options: Vec<Given<'w>>,
+    /// The variables to remove.
+    pub unset: Vec<&'w str>,
+    /// Whether to begin without variables.
+    pub ignore: bool,
+    /// The folder in which to begin.
+    pub folder: Option<&'w str>,
     /// The program and its words, as they were typed. Empty if there is no program.
     pub command: &'w [S],
 }
 
-/// Variables to unset, whether to begin without any, and help. Options precede the command.
+/// The options, which precede the command.
 fn options(alloc: Global) -> Result<Options, AllocError>
     ensures { IfOk result (λ options. options ≡ launch_options) }
 {
@@ -27,6 +32,7 @@ fn options(alloc: Global) -> Result<Options, AllocError>
     options
         .optmulti("u", "unset", "remove NAME from the variables", "NAME")?
         .optflagmulti("i", "ignore", "begin without variables")?
+        .optopt("C", "chdir", "begin in DIR", "DIR")?
         .optflagmulti("", "help", "print this help")?
         .parsing_style(ParsingStyle::StopAtFirstFree);
     Ok(options)
@@ -43,24 +49,36 @@ pub fn read_launch<'w, S: AsStr>(
     let options = options(alloc)?;
     let reader = options.reader(alloc)?;
     let mut unread = Unread::new(words);
-    let mut read = Vec::new(alloc);
-    while let Some(given) = reader.next(alloc, &mut unread)? {
+    let mut launch = Launch {
+        unset: Vec::new(alloc),
+        ignore: false,
+        folder: None,
+        command: &[],
+    };
+    'words: while let Some(given) = reader.next(alloc, &mut unread)? {
         match given {
-            Given::Option { place, .. } => match options.get(place).map(|group| group.long_name) {
+            Given::Option { place, value } => match options
+                .get(place)
+                .map(|group| group.long_name)
+            {
+                // By the clause `declared`, an option that needs an argument has a value.
+                Some("unset") => launch.unset.push(value.unwrap())?,
+                Some("ignore") => launch.ignore = true,
+                Some("chdir") => {
+                    if launch.folder.is_some() {
+                        let name = String::from_str(alloc, "chdir")?;
+                        return Err(Fail::OptionDuplicated(name));
+                    }
+                    launch.folder = value;
+                }
                 Some("help") => return Ok(Request::Help),
-                Some("unset" | "ignore") => read.push(given)?,
                 _ => unreachable!(),
             },
             Given::Free(_) => {
-                return Ok(Request::Parsed(Launch {
-                    options: read,
-                    command: unread.free_words.unwrap_or(&[]),
-                }));
+                launch.command = unread.free_words.unwrap_or(&[]);
+                return Ok(Request::Parsed(launch));
             }
         }
     }
-    Ok(Request::Parsed(Launch {
-        options: read,
-        command: &[],
-    }))
+    Ok(Request::Parsed(launch))
 }
