@@ -87,16 +87,11 @@ Added = Res.the_row unit AE.the_row
 abbrev pub AddedResult : Type 0
 AddedResult = Result (Unit {0}) AllocError
 
-abbrev added_fields : enums.Laws (Res.the_type unit AE.the_row)
-added_fields = result_fields unit AE.the_row (of_field unit-field unit-laws refl (copy_shared unit-field unit-copy))
-    error_laws (field_told unit-field unit-laws) error_told
-
 -- the two values of the result of `add_group`
 pub added_values : (u : AddedResult) (v : Val) → Is Added u (v ∷ [])
     → ((v ≡ live 0 (vcons vunit vnil)) × (u ≡ Ok (record {})))
     ⊎ ((v ≡ live 1 (vcons (vstruct vnil) vnil)) × (u ≡ Err (record {})))
-added_values (Ok x) v is = inl (ap only (enums.tells (Res.the_type unit AE.the_row) added_fields (Ok x) (v ∷ []) is), refl)
-added_values (Err e) v is = inr (ap only (enums.tells (Res.the_type unit AE.the_row) added_fields (Err e) (v ∷ []) is), refl)
+added_values u v is = search rules
 
 -- a value that is a result has its type
 pub returned_typed : {M : Type 1} {𝓤 : Ura M} (𝓛 : Logic 𝓤) (κ : Lft) (r : (Returned κ).Denot) (v : Val)
@@ -203,17 +198,13 @@ abbrev kind_val : HasArg → Val
 kind_val k = live (tag_of has_arg.the_type k) vnil
 
 kind_is : (k : HasArg) → Is has_arg.the_row k (kind_val k ∷ [])
-kind_is Yes = ([], (refl, (tt, (refl, tt))))
-kind_is No = ([], (refl, (tt, (refl, tt))))
-kind_is Maybe = ([], (refl, (tt, (refl, tt))))
+kind_is k = search rules
 
 abbrev occur_val : Occur → Val
 occur_val o = live (tag_of occurs.the_type o) vnil
 
 occur_is : (o : Occur) → Is occurs.the_row o (occur_val o ∷ [])
-occur_is Req = ([], (refl, (tt, (refl, tt))))
-occur_is Optional = ([], (refl, (tt, (refl, tt))))
-occur_is Multi = ([], (refl, (tt, (refl, tt))))
+occur_is o = search rules
 
 -- The code of these calls reborrows the options, borrows the empty text if there is no hint, writes
 -- the two values, and calls `opt`.

@@ -1,6 +1,6 @@
 -- Computing with literal options, command lines and help texts.
-use Rattle.std.proofs.Common.{◌≡◌, Bool, true, false, nat_lt, List, [], ◌∷◌, arith, rules}
-use Rattle.std.proofs.Common.{◌==◌, ◌≤◌, ◌+◌, ◌&&◌, not, length}
+use Rattle.std.proofs.Common.{◌≡◌, Bool, true, false, nat_lt, List, [], ◌∷◌, arith, rules, ◌==◌, ◌≤◌, ◌+◌, ◌&&◌, not}
+use Rattle.std.proofs.Common.{length}
 use Rattle.std.specs.Prelude.{⊤}
 use Rattle.std.specs.Char.{encode_utf8}
 use Rattle.std.specs.List.{list_all}
@@ -47,8 +47,7 @@ abbrev pub is_plain_text : Text → Bool
 is_plain_text text = list_all (λ byte. nat_lt byte 128) text
 
 text_ascii : (text : Text) → is_plain_text text ≡ true → IsAscii text
-text_ascii [] plain = λ i. omega arith
-text_ascii (byte ∷ text) plain = grind (arith, common_steps, and_parts, IsAscii-cons, ltb-true)
+text_ascii text plain = grind (arith, common_steps, and_parts, IsAscii-cons, ltb-true)
 
 short_told : (short : Text) → is_plain_short short ≡ true → (length short ≤ 1) × IsAscii short
 short_told short plain = search (rules, text_ascii)

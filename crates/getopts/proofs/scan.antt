@@ -2,7 +2,6 @@
 -- place.
 pub mod Words
 pub mod Items
-pub mod Loop
 pub mod Next
 pub mod One
 pub mod Placed

@@ -4,7 +4,7 @@ use Rattle.std.specs.List.{AllByRecursion}
 use Rattle.getopts.specs.Names.{Text}
 use Rattle.getopts.specs.Options.{Declared, Grammar, MayBeDeclared, grammar_of}
 use Rattle.getopts.specs.Reading.{Item, free, long, cluster, Tail, no_tail, stop, rest, Reading, IsLawfulItem}
-use Rattle.getopts.specs.Reading.{AreWellFollowed, free_items, spelled_all, stop_word, tail_frees, tail_words}
+use Rattle.getopts.specs.Reading.{free_items, spelled_all, stop_word, tail_frees, tail_words}
 use Rattle.getopts.specs.Matches.{Matched}
 use Rattle.getopts.specs.Parse.{Reads, HasReading, IsAccepted, HaveLastWordsFree, Accepts}
 use Rattle.getopts.proofs.parse.Holds.{EndsInTrailing-read}
@@ -12,7 +12,7 @@ use Rattle.getopts.specs.declared.kinds.ParsingStyle.TheVariants.{StopAtFirstFre
 use Rattle.getopts.proofs.MainTheorem.Accepted.{parse_result-accepted}
 use Rattle.getopts.proofs.Only.{meets}
 use Rattle.getopts.proofs.parse.Parsed.{only_reads}
-use Rattle.getopts.proofs.Reading.Readings.{spelled_all-append}
+use Rattle.getopts.proofs.Reading.Readings.{followed-other, spelled_all-append}
 use Rattle.getopts.proofs.Reading.Positions.{HavePositionsBelow-matched}
 
 -- a tail without its free words
@@ -34,11 +34,6 @@ words_cut items no_tail = sym (append-nil (spelled_all items []))
 words_cut items (stop words) = spelled_all-append items (stop_word ∷ []) words
 words_cut items (rest words) = spelled_all-append items [] words
 
-followed_cut : (items : List Item) (tail : Tail) → AreWellFollowed items (tail_words tail)
-    → AreWellFollowed items (tail_words (cut_tail tail))
-followed_cut [] tail followed = tt
-followed_cut (item ∷ items) tail followed = search (rules, words_cut items tail, followed_cut items tail followed.1)
-
 HaveLastWordsFree-accepted : (options : Declared) → MayBeDeclared options.groups → (words : List Text) (m : Matched)
     → IsAccepted options words m → HaveLastWordsFree options words m
 HaveLastWordsFree-accepted options declared words m accepted style =
@@ -51,7 +46,7 @@ HaveLastWordsFree-accepted options declared words m accepted style =
     let free : m.free ≡ tail_frees reading.tail = search rules in
     let read : HasReading options before (record m { free = []; trailing_start = None }) = record {
       reading = cut;
-      only = only_reads options declared before cut (search (rules, followed_cut));
+      only = only_reads options declared before cut (search (rules, followed-other));
       matches_are = search rules;
     } in
     record {

@@ -12,18 +12,14 @@ use Rattle.getopts.proofs.counts.FirstFault.{first_count_fault-is}
 -- a value made of a reading has the same error as the reading
 made_of-unless : {X : Type 0} (make : Reading → X) (reading : Reading) (fault : Option Fault)
     → Spec.made_of make (Spec.unless_fault reading fault) ≡ Spec.unless_fault (make reading) fault
-made_of-unless make reading None = refl
-made_of-unless make reading (Some fault) = refl
+made_of-unless make reading fault = search rules
 
 module _ (options : Declared) where
   counted : (matches : Matched) (result : Result Reading Fault)
       → Spec.made_of (matches_of options) result ≡ Ok matches
       → Spec.made_of (matches_of options) (Spec.with_counts_kept options result) ≡ Spec.counted_result matches
   unfolding Spec.counted_result
-  counted matches (Ok reading) is =
-      let same : matches_of options reading ≡ matches = cc is in
-      rw (← same) (made_of-unless (matches_of options) reading _)
-  counted matches (Err fault) is = cc is
+  counted matches result is = search (rules, made_of-unless)
 
   -- if words can be read, their result is that of checking the counts
   pub parse_result-counted : (words : List Text) (matches : Matched)

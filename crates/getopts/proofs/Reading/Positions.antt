@@ -1,16 +1,22 @@
 -- Positions: how many words items spell, which occurrences move up by one, and what is at a
 -- position. Orders: the options and free words in the order of a reading.
-use Rattle.std.proofs.Common.{◌≡◌, ℕ, ◌+◌, ◌<◌, true, false, List, [], ◌∷◌, append_assoc, ◌++◌, length, map, refl, ap, ◌∙◌, sym, inl, inr, add-zero, zero-add, arith, Some, rules}
+use Rattle.std.proofs.Common.{◌≡◌, ℕ, ◌+◌, ◌<◌, true, false, List, [], ◌∷◌, append_assoc, ◌++◌, length, map, refl, ap}
+use Rattle.std.proofs.Common.{◌∙◌, sym, inl, inr, add-zero, zero-add, arith, Some, rules}
 use Rattle.std.specs.Prelude.{nat_le, slice_get, Contains}
 use Rattle.std.specs.List.{AllByRecursion, flat_map}
 use Rattle.std.proofs.lemmas.List.{map-append, length-append, map-id, append-nil}
-use Rattle.std.proofs.lemmas.List.Elements.{Contains-append_cases, All-contains, All-map, All-contains_itself, All-weaker, recursion_from_All}
+use Rattle.std.proofs.lemmas.List.Elements.{Contains-append_cases, All-contains, All-map, All-contains_itself}
+use Rattle.std.proofs.lemmas.List.Elements.{All-weaker, recursion_from_All}
 use Rattle.std.proofs.lemmas.Simd.{map-map}
 use Rattle.std.proofs.lemmas.Bool.Decides.{nat_tests}
 use Rattle.std.proofs.lemmas.Option.{slice_get_within}
 use Rattle.getopts.specs.Names.{Text}
 use Rattle.getopts.specs.Options.{Signature, Grammar}
-use Rattle.getopts.specs.Reading.{Item, free, long, cluster, item_words, spelled_all, Tail, tail_words, Reading, IsReading, Mention, mentions, Occurrence, at_position, word_count, occurrences_after, occurrences_of, Given, option, free_word, given_option, given_by, order_of_items, tail_frees, order_of_reading, options_in, frees_in, free_items, free_words}
+use Rattle.getopts.specs.Reading.{Item, free, long, cluster, item_words, spelled_all, Tail, tail_words, Reading}
+use Rattle.getopts.specs.Reading.{IsReading, Mention, mentions, Occurrence, at_position, word_count}
+use Rattle.getopts.specs.Reading.{occurrences_after, occurrences_of, Given, option, free_word, given_option, given_by}
+use Rattle.getopts.specs.Reading.{order_of_items, tail_frees, order_of_reading, options_in, frees_in, free_items}
+use Rattle.getopts.specs.Reading.{free_words}
 use Rattle.getopts.specs.Matches.{matched}
 use Rattle.getopts.specs.ReadingLaws as Spec
 use Rattle.getopts.proofs.Lists.{AllByRecursion-filter, AllByRecursion-map, slice_get-append}
@@ -77,17 +83,11 @@ frees_in-frees (word ∷ words) = ap (λ words. word ∷ words) (frees_in-frees 
 -- in what an item gives
 pub options_in-given_by : (grammar : Grammar) (item : Item)
     → options_in (given_by grammar item) ≡ mentions grammar item
-options_in-given_by grammar (free word) = refl
-options_in-given_by grammar (long dashes name argument) = refl
-options_in-given_by grammar (cluster bytes end) =
-    options_in-options (mentions grammar (cluster bytes end))
+options_in-given_by grammar item = search (rules, options_in-options)
 
 frees_in-given_by : (grammar : Grammar) (item : Item)
     → frees_in (given_by grammar item) ≡ free_items (item ∷ [])
-frees_in-given_by grammar (free word) = refl
-frees_in-given_by grammar (long dashes name argument) = refl
-frees_in-given_by grammar (cluster bytes end) =
-    frees_in-options (mentions grammar (cluster bytes end))
+frees_in-given_by grammar item = search (rules, frees_in-options)
 
 -- in what items give
 pub options_in-items : (grammar : Grammar) (items : List Item)
@@ -150,9 +150,7 @@ occurrences_after-append grammar (item ∷ items) others before =
 given_by-mentioned : (grammar : Grammar) (at : ℕ) (item : Item) (occurrence : Occurrence)
     → Contains (map (at_position at) (mentions grammar item)) occurrence
     → given_by grammar item ≡ map given_option (mentions grammar item)
-given_by-mentioned grammar at (free word) occurrence contained = absurd (omega (arith, contained.1))
-given_by-mentioned grammar at (long dashes name argument) occurrence contained = refl
-given_by-mentioned grammar at (cluster bytes end) occurrence contained = refl
+given_by-mentioned grammar at item occurrence contained = search rules
 
 -- its options follow what the items before it give
 FollowsItems-reading : (grammar : Grammar) (reading : Reading) (before after : List Item) (item : Item)

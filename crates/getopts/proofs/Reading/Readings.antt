@@ -11,7 +11,8 @@ use Rattle.getopts.specs.Reading.{Argument, no_tail, IsReading, Item, Tail, Read
 use Rattle.getopts.specs.Reading.{EndsOrIsDashed, AreWellFollowed, spelled_all, tail_words, IsLawfulTail, IsScanFault}
 use Rattle.getopts.specs.Results.{made_of}
 use Rattle.getopts.specs.Step.{Step, takes}
-use Rattle.getopts.proofs.Reading.Reader.{HasTextNames, step, spelled, free_step, with_items, after_step, read_both, read}
+use Rattle.getopts.proofs.Reading.Reader.{HasTextNames, step, spelled, free_step, with_items, after_step, read_both}
+use Rattle.getopts.proofs.Reading.Reader.{read}
 use Rattle.getopts.proofs.Reading.Steps as Steps
 
 -- `read` on one word, by its step.
@@ -89,12 +90,13 @@ EndsOrIsDashed-spelled item words others begins = search rules
 pub ends-front : (xs ys : List Text) → EndsOrIsDashed (xs ++ ys) → EndsOrIsDashed xs
 ends-front xs ys whole = search rules
 
--- items that may end a line may also precede a dashed word
-followed-append : (items : List Item) (more : List Text) → AreWellFollowed items []
-    → EndsOrIsDashed more → AreWellFollowed items more
-followed-append [] more followed dashed = tt
-followed-append (item ∷ items) more followed dashed =
-    search (rules, spelled_all-append items [] more, followed-append items more followed.1 dashed)
+-- items may also precede the end of a line, or a dashed word
+pub followed-other : (items : List Item) (words others : List Text) → AreWellFollowed items words
+    → EndsOrIsDashed others → AreWellFollowed items others
+followed-other [] words others followed dashed = tt
+followed-other (item ∷ []) words others followed dashed = (λ bare. dashed, tt)
+followed-other (item ∷ next ∷ items) words others followed dashed =
+    search (rules, EndsOrIsDashed-spelled, followed-other (next ∷ items) words others followed.1 dashed)
 
 -- if a line has an error, `read` returns it
 pub fault_read : (grammar : Grammar) → HasTextNames grammar → (words : List Text) (fault : Fault)
@@ -104,7 +106,7 @@ fault_read grammar named words fault is =
     search (rules, spelled_all-append is.items [] (is.word ∷ is.after)) in
     let stopped = Steps.fault_step grammar named is.word is.after fault is.fault_at in
     let followed : AreWellFollowed is.items (is.word ∷ is.after) =
-    search (rules, followed-append, Steps.faults_dashed) in
+    search (rules, followed-other, Steps.faults_dashed) in
     search (rules, read, items_read, with_items, read_step)
 
 -- a value made of a result is made of a reading

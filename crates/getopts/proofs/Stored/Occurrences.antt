@@ -1,7 +1,7 @@
 -- Occurrences: as they are stored, with their values in one text, and those of one group.
-use Rattle.std.proofs.Common.{◌≡◌, ◌≢◌, ◌<◌, ◌≤◌, ◌+◌, ◌/◌, ◌%◌, ℕ, zero, suc, ◌==◌, ◌&&◌, Bool, true, false, List}
-use Rattle.std.proofs.Common.{[], rules, ◌∷◌, ◌++◌, map, length, get_or, take, slice_get, Option, Bor, Some, None}
-use Rattle.std.proofs.Common.{refl, ap, sym, ◌∙◌, arith}
+use Rattle.std.proofs.Common.{◌≡◌, ◌≢◌, ◌<◌, ◌≤◌, ◌+◌, ◌/◌, ℕ, zero, suc, ◌==◌, ◌&&◌, Bool, true, false, List, []}
+use Rattle.std.proofs.Common.{rules, ◌∷◌, ◌++◌, map, length, get_or, take, slice_get, Option, Bor, Some, None, refl}
+use Rattle.std.proofs.Common.{ap, sym, ◌∙◌, arith}
 use Rattle.std.specs.List.{AllByRecursion}
 use Rattle.std.specs.Cmp.Lexicographic.{pointwise}
 use Rattle.std.specs.Option.{option_eq, option_map}
@@ -20,7 +20,7 @@ use Rattle.getopts.specs.Stored.Occurrences.{end_by, value_in, occurrence_in, oc
 use Rattle.getopts.specs.Stored.Occurrences.{no_occurrence, occurrences_at_indices}
 use Rattle.getopts.specs.declared.occurrences.OccurrenceRecord.{OccurrenceRecord}
 use Rattle.getopts.proofs.Lists as Lists
-use Rattle.getopts.proofs.Stored.Texts.{IsCharBoundary-append, slice_range-append, slice_range-added}
+use Rattle.getopts.proofs.Stored.Texts.{IsCharBoundary-append, slice_range-append}
 
 -- each record has an occurrence
 pub length-occurrences : (values : Text) (records : List OccurrenceRecord)
@@ -100,11 +100,6 @@ module _ (values more : Text) (utf8 : IsUtf8 more) where
     occurrences-push (stored ∷ []) all = search (rules, IsCharBoundary-append, value-last, occurrences-push [] tt)
     occurrences-push (stored ∷ next ∷ records) all =
         search (rules, IsCharBoundary-append, value-append, occurrences-push (next ∷ records) all.1)
-
--- an added value is at the end
-pub value-added : (values more : Text) (number : ℕ) → number / 2 ≡ length values → number % 2 ≡ 1
-    → value_in (values ++ more) number None ≡ Some more
-value-added values more number starts given = search (rules, slice_range-added)
 
 module _ (occurrences : List Occurrence) (indices : List ℕ)
     (all : AllByRecursion (λ index. index < length occurrences) indices) where

@@ -4,15 +4,15 @@ use Rattle.std.proofs.Common.{Option, Some, None, IfSome, IsSome, refl, ap, sym,
 use Rattle.std.specs.List.{AllByRecursion}
 use Rattle.std.specs.Option.{option_and_then, option_map, option_map_or}
 use Rattle.std.proofs.lemmas.Bool.{eqb-true}
-use Rattle.std.proofs.lemmas.Option.{option_and_then_some, same_Some}
 use Rattle.getopts.specs.Names.{Text, resolution}
 use Rattle.getopts.specs.Options.{Signature, Group, Declared, names_of, signatures_of, grammar_of, kind_of, occur_of}
 use Rattle.getopts.specs.Reading.{Occurrence, spelled_all, occurrences_of, stop, FitsKind, free_words, IsReading}
+use Rattle.getopts.specs.Reading.{Given, option, free_word, options_in, order_of_reading, Reading}
 use Rattle.getopts.specs.Matches.{GroupOccurrence, Matched, MatchedGroup, occurrences_mentioning, matched, fits_count}
 use Rattle.getopts.specs.Matches.{KeepsCounts}
 use Rattle.getopts.specs.Accessors.{opt_place, occurrences_of_name, occurrences_of_group, first_value}
-use Rattle.getopts.specs.Parse.{IsAccepted, HasReading, AreGroupsOf, HaveValuesByKind, FitOptions, FitOptionsAndCounts}
-use Rattle.getopts.specs.Parse.{EndsInTrailing, kind_at, IsDeclared}
+use Rattle.getopts.specs.Parse.{IsAccepted, HasReading, AreGroupsOf, HaveValuesByKind, FitOptions}
+use Rattle.getopts.specs.Parse.{FitOptionsAndCounts, EndsInTrailing, kind_at, IsDeclared}
 use Rattle.getopts.specs.Stored.Signatures.{kinds_of}
 use Rattle.getopts.specs.declared.kinds.HasArg.{HasArg}
 use Rattle.getopts.specs.declared.kinds.HasArg.TheVariants.{Yes}
@@ -20,14 +20,12 @@ use Rattle.getopts.specs.declared.kinds.Occur.{Occur}
 use Rattle.getopts.specs.declared.kinds.Occur.TheVariants.{Req}
 use Rattle.getopts.proofs.Lists.{AllByRecursion-filter, AllByRecursion-map, AllByRecursion-unmap}
 use Rattle.getopts.proofs.counts.Groups.{AllByRecursion-matched}
-use Rattle.getopts.specs.Reading.{Given, option, free_word, options_in, order_of_reading, Reading}
 use Rattle.getopts.proofs.Reading.Positions.{options_in-order}
 use Rattle.getopts.proofs.canon.Lines.{FitsGroup, FitsGroup-within, IsFitting-reading, IsGood, IsGood-reading}
 use Rattle.getopts.proofs.Stored.Matches.{signatures-matched, occurrences-matched, opt_place-signatures}
 use Rattle.getopts.proofs.Reading.Laws.{TrailingStartIsAfterStop_lem, HavePositionsInOrder-matched}
 use Rattle.getopts.proofs.Reading.Readings.{spelled_all-append}
 use Rattle.getopts.proofs.Stored.Signatures.{names-signatures_of, kind-signatures_of}
-use Rattle.getopts.proofs.table.Names.{resolution_within}
 use Rattle.std.proofs.lemmas.List.{length-map}
 use Rattle.std.proofs.lemmas.Grind.{common_steps}
 
@@ -47,7 +45,7 @@ pub occurrences-named : {B : Type 0} (f : List GroupOccurrence → B) (g : ℕ �
     → f (occurrences_of_name (matched 0 (signatures_of options.groups) occurrences) name)
     ≡ option_map_or g (resolution (names_of options.groups) name) (f [])
 occurrences-named f g options occurrences each name =
-    search (rules, opt_place-groups, signatures-matched, resolution_within, occurrences-matched, length-map, zero-add)
+    search (rules, opt_place-groups, signatures-matched, occurrences-matched, length-map)
 
 -- A fact about each matched group, and what its signature says, holds for the group at a place.
 module _ {X : Type 0} (f : Signature → X) (P : X → List GroupOccurrence → Type 0) where
@@ -58,7 +56,7 @@ module _ {X : Type 0} (f : Signature → X) (P : X → List GroupOccurrence → 
       → P x (occurrences_of_group others place)
   at_place [] others are each place x there = cc there
   at_place (group ∷ groups) [] are each place x there = cc are
-  at_place (group ∷ groups) (first ∷ others) are each zero x there = search (rules, same_Some)
+  at_place (group ∷ groups) (first ∷ others) are each zero x there = search rules
   at_place (group ∷ groups) (first ∷ others) are each (suc place) x there =
       let same : map (λ (group : MatchedGroup). group.signature) others ≡ signatures_of groups = cc in
       at_place groups others same each.1 place x there
@@ -70,7 +68,7 @@ module _ {X : Type 0} (f : Signature → X) (P : X → List GroupOccurrence → 
       → option_and_then (λ place. option_map (λ (group : Group). f group.signature)
       (slice_get options.groups place)) (resolution (names_of options.groups) name) ≡ Some x
       → P x (occurrences_of_name groups name)
-  at_name options groups are each name x is = search (rules, option_and_then_some, opt_place-groups, at_place)
+  at_name options groups are each name x is = search (rules, opt_place-groups, at_place)
 
 module _ (options : Declared) (groups : List MatchedGroup) (are : AreGroupsOf options groups) where
   -- each option was given as often as its kind of occurrence allows
@@ -93,7 +91,7 @@ module _ (options : Declared) (groups : List MatchedGroup) (are : AreGroupsOf op
 -- an occurrence of a group of a kind
 FitsKind-place : (groups : List Group) (o : Occurrence) (place : ℕ) (kind : HasArg) → kind_at groups place ≡ Some kind
     → FitsGroup groups o.mention → o.mention.place ≡ place → FitsKind kind o.mention.value
-FitsKind-place groups o place kind there fits here = search (rules, same_Some, kind_at)
+FitsKind-place groups o place kind there fits here = search rules
 
 -- the occurrences of one group have values as its kind requires
 HaveValuesFor-occurrences_mentioning : (groups : List Group) (place : ℕ) (kind : HasArg)
@@ -101,7 +99,7 @@ HaveValuesFor-occurrences_mentioning : (groups : List Group) (place : ℕ) (kind
     → AllByRecursion (λ o. FitsGroup groups o.mention) occurrences
     → HaveValuesFor kind (occurrences_mentioning place occurrences)
 HaveValuesFor-occurrences_mentioning groups place kind there occurrences each =
-    search (rules, AllByRecursion-map, AllByRecursion-filter, FitsKind-place, eqb-true)
+    search (rules, AllByRecursion-map, AllByRecursion-filter, FitsKind-place)
 
 module _ (options : Declared) (words : List Text) (matches : Matched)
     (has : HasReading options words matches) where
@@ -128,7 +126,6 @@ module _ (options : Declared) (words : List Text) (matches : Matched)
   FitOptions-read =
       search (
         rules,
-        groups_are,
         HavePositionsInOrder-matched,
         HaveValuesByKind-read,
         needed-groups,

@@ -1,7 +1,6 @@
 -- What is made of a line that was read.
-use Rattle.std.proofs.Common.{ap, sym, ◌∙◌, Some}
-use Rattle.std.proofs.Common.{◌≡◌, ℕ, Bool, true, false, List, length, map, Option, None, Result, Ok, Err, refl}
-use Rattle.std.proofs.Common.{rules}
+use Rattle.std.proofs.Common.{ap, sym, ◌∙◌, Some, ◌≡◌, ℕ, Bool, List, length, map, Option, None, Result, Ok, Err}
+use Rattle.std.proofs.Common.{refl, rules}
 use Rattle.std.specs.String.{string_bytes}
 use Rattle.std.proofs.lemmas.List.{length-map}
 use Rattle.getopts.specs.Names.{Text}
@@ -9,8 +8,8 @@ use Rattle.getopts.specs.Options.{Declared, Grammar, signatures_of, grammar_of}
 use Rattle.getopts.specs.Fail.{Fault}
 use Rattle.getopts.specs.Reading.{Given, Reading, Occurrence, occurrences_of, order_of_reading}
 use Rattle.getopts.specs.Matches.{matched, matches_of, occurrences_mentioning}
-use Rattle.getopts.specs.Results.{made_of, accepted_reading, reading_or_error, with_counts_kept, unless_fault, written_line}
-use Rattle.getopts.specs.Results.{canonical_result, parse_in_order_result}
+use Rattle.getopts.specs.Results.{made_of, accepted_reading, reading_or_error, with_counts_kept, unless_fault}
+use Rattle.getopts.specs.Results.{written_line, canonical_result, parse_in_order_result}
 use Rattle.getopts.specs.Stored.Index.{Indexed, count_given, count_in, first_wrong, indices_in, index_of}
 use Rattle.getopts.specs.Scan.{GivesLine, order_content, reading_if}
 use Rattle.getopts.specs.declared.scan.Line.{Line}
@@ -43,11 +42,6 @@ with_counts_kept-order : (options : Declared) {result : Result Reading Fault}
     → with_counts_kept options result ≡ unless_fault reading fault
 with_counts_kept-order options reading order fault result_is order_is first =
     search (rules, first_wrong-counts, count_given-order)
-
--- an error that is made of a result is the result's
-pub made_of-err : {X : Type 0} (make : Reading → X) (result : Result Reading Fault) (fault : Fault)
-    → made_of make result ≡ Err fault → result ≡ Err fault
-made_of-err make result fault same = search rules
 
 -- An order was made of the result.
 module _ (options : Declared) (result : Result Reading Fault) (order : List Given)
@@ -101,8 +95,7 @@ module _ (options : Declared) {result : Result Reading Fault} {line : Line}
 pub reading_if-fault : (counted : Bool) (options : Declared) (words : List Text) (fault : Fault)
     → reading_or_error options words ≡ Err fault → reading_if counted options words ≡ Err fault
 unfolding accepted_reading reading_or_error
-reading_if-fault true options words fault is = search rules
-reading_if-fault false options words fault is = is
+reading_if-fault counted options words fault is = search rules
 
 -- the order of accepted words gives their canonical line, if no main name in it contains `=`
 pub canonical_result-order : (options : Declared) (words : List Text) (order : List Given)

@@ -1,17 +1,12 @@
 -- The option that begins with a word in long form, by its name, its kind and its argument.
-use Rattle.std.proofs.Common.{◌≡◌, ◌+◌, ℕ, false, List, [], ◌∷◌, ◌++◌, length, Option, None, Some, Err, rules}
+use Rattle.std.proofs.Common.{◌≡◌, ◌+◌, ℕ, false, List, ◌++◌, Option, None, Some, Err, rules}
 use Rattle.getopts.specs.Names.{Text}
 use Rattle.getopts.specs.Options.{Grammar}
-use Rattle.getopts.specs.Reading.{Argument, Dashes, argument_words, holds_equals}
+use Rattle.getopts.specs.Reading.{Dashes, holds_equals}
 use Rattle.getopts.specs.Fail.{Fault, unrecognized_option}
 use Rattle.getopts.specs.Step.{with_equals, faults, chosen_long, long_name_step, long_step, Chooses, TakesOne}
 use Rattle.getopts.specs.declared.kinds.HasArg.{HasArg}
 use Rattle.getopts.proofs.Reading.Steps.{long_step_cut}
-
--- an item of one word and its argument's has one word more than the argument
-pub length-argument : (word : Text) (argument : Argument)
-    → length ((word ∷ argument_words argument) ++ []) ≡ 1 + length (argument_words argument)
-length-argument word argument = search rules
 
 -- A text in long form, by its name and its attached argument.
 module _ (grammar : Grammar) (dashes : Dashes) (text name : Text) (argument : Option Text)
@@ -37,4 +32,4 @@ module _ (grammar : Grammar) (dashes : Dashes) (text name : Text) (argument : Op
       → Chooses (chosen_long kind name argument after) after value left
       → TakesOne grammar (long_step grammar dashes text after) after place value left
   TakesOne-long kind place value left kind_is place_is chooses =
-      search (rules, long_step-long_name (Some kind) kind_is, length-argument [] chooses.argument)
+      search (rules, long_step-long_name (Some kind) kind_is)

@@ -1,80 +1,59 @@
 -- A line that is read one option or free word at a time: a name in long form, a name of a cluster,
 -- and a free word.
-use Rattle.std.proofs.Common.{Err, ◌≡◌, ◌≢◌, ◌+◌, ◌-◌, ◌<◌, ◌≤◌, ℕ, List, [], ◌∷◌, ◌++◌, length, rules, drop, refl}
-use Rattle.std.proofs.Common.{◌∙◌, ap, sym, Option, Some, None, arith, ◌==◌, ◌&&◌, not, if◌then◌else◌, Bool, true, false, map, append_assoc, Result, Ok}
-use Rattle.std.proofs.lemmas.Bool.{cases_Bool}
+use Rattle.std.proofs.Common.{inl, inr, Err, ◌≡◌, ◌≢◌, ◌+◌, ◌-◌, ◌<◌, ◌≤◌, ℕ, List, [], ◌∷◌, ◌++◌, length, rules}
+use Rattle.std.proofs.Common.{drop, refl, ◌∙◌, ap, sym, Option, Some, None, arith, ◌==◌, ◌&&◌, not, true, map}
+use Rattle.std.proofs.Common.{append_assoc, Result, Ok, slice_index, slice_range}
+use Rattle.std.proofs.lemmas.Bool.{and_parts, cases_Bool}
 use Rattle.std.specs.Prelude.{⊤}
-use Rattle.std.proofs.Common.{slice_index, slice_range}
-use Rattle.std.proofs.lemmas.Bool.{and_parts}
 use Rattle.std.proofs.lemmas.List.{append-nil, map-append}
 use Rattle.std.proofs.Math.Seq.{drop-append_seam}
 use Rattle.std.proofs.Permutation.{every_append}
 use Rattle.getopts.specs.Names.{Text}
 use Rattle.getopts.specs.Options.{Declared, Grammar, grammar_of}
-use Rattle.getopts.specs.Fail.{Fault, unrecognized_option}
+use Rattle.getopts.specs.Fail.{Fault}
 use Rattle.getopts.specs.Reading as Spec
-use Rattle.getopts.specs.Reader.{Left, Next, next_by_step, next_free, next_name, next_option, next_word, size_of, words_size}
+use Rattle.getopts.specs.Reader.{Left, Next, next_by_step, next_free, next_name, next_option, next_word, size_of}
+use Rattle.getopts.specs.Reader.{words_size}
 use Rattle.getopts.specs.Parse.{IsDeclared}
-use Rattle.getopts.specs.Step.{Step, ends, takes, faults, byte_step, name_step, chosen_step, cluster_step, TakesName, takes_last, takes_flag}
-use Rattle.getopts.specs.Step.{chosen_end, first_char, Chooses, IsShortForm}
+use Rattle.getopts.specs.Step.{Step, ends, takes, faults, byte_step, chosen_step, cluster_step, chosen_end}
+use Rattle.getopts.specs.Step.{first_char, IsShortForm}
 use Rattle.getopts.specs.Scan.{AreBeforeWords, AreBefore, HasOneMore, GivesOne, between_words, within_word, words_left}
 use Rattle.getopts.specs.declared.kinds.HasArg.{HasArg}
 use Rattle.getopts.specs.declared.kinds.HasArg.TheVariants.{Maybe, No, Yes}
 use Rattle.getopts.proofs.Lists.{filled-append}
 use Rattle.getopts.proofs.Reading.Reader.{HasTextNames, step, read}
-use Rattle.getopts.proofs.Reading.Readings.{read_step, items_read, spelled_all-joined}
+use Rattle.getopts.proofs.Reading.Readings.{reading_read, read_step, items_read, spelled_all-joined}
 use Rattle.getopts.proofs.Reading.Positions.{order_of_items-append, occurrences_after-append, length-spelled_all}
 use Rattle.getopts.proofs.Reading.Positions.{options_in-append, options_in-options, options_in-given_by}
 use Rattle.getopts.proofs.Reading.Steps as Steps
-use Rattle.getopts.proofs.canon.Lines.{FitsGroup-within, FitsKind-long, IsGood-mention}
+use Rattle.getopts.proofs.canon.Lines.{FitsKind-long}
+use Rattle.std.proofs.lemmas.Grind.{common_steps}
 
 -- words, and those that are left after an argument
 words_size-left : (words left : List Text) → words_size left ≤ words_size (words ++ left)
 words_size-left [] left = omega arith
 words_size-left (word ∷ words) left = omega (arith, words_size-left words left)
 
--- The first of names that aren't empty.
-module _ (grammar : Grammar) (after : List Text) where
-  pub name_unknown : (names : Text) → names ≢ [] → grammar.kind (slice_index names 0 ∷ []) ≡ None
-      → (bytes : List ℕ) (more : Step)
-      → name_step grammar bytes names after more ≡ faults (unrecognized_option (first_char names))
-  name_unknown [] filled unknown bytes more = absurd (filled refl)
-  name_unknown (byte ∷ rest) filled unknown bytes more = rw unknown refl
-
-  pub name_flag : (names : Text) (place : ℕ) → names ≢ [] → grammar.place (slice_index names 0 ∷ []) ≡ Some place
-      → grammar.kind (slice_index names 0 ∷ []) ≡ Some No
-      → TakesName grammar names after place None (drop 1 names) after
-  name_flag [] place filled place_is flag = absurd (filled refl)
-  name_flag (byte ∷ rest) place filled place_is flag = takes_flag byte refl flag place_is refl refl
-
-  pub name_last : (names : Text) (place : ℕ) (kind : HasArg) (value : Option Text) (left : List Text) → names ≢ []
-      → grammar.place (slice_index names 0 ∷ []) ≡ Some place → kind ≢ No
-      → grammar.kind (slice_index names 0 ∷ []) ≡ Some kind
-      → Chooses (chosen_end kind (slice_index names 0 ∷ []) (drop 1 names) after) after value left
-      → TakesName grammar names after place value [] left
-  name_last [] place kind value left filled place_is other kind_is chooses = absurd (filled refl)
-  name_last (byte ∷ rest) place kind value left filled place_is other kind_is chooses =
-      takes_last byte rest kind refl refl place_is other kind_is chooses
+-- names that aren't empty are the first one and the others
+pub names_are : (names : Text) → names ≢ [] → names ≡ slice_index names 0 ∷ drop 1 names
+names_are [] filled = absurd (filled refl)
+names_are (byte ∷ rest) filled = refl
 
 -- a first byte of ASCII is the first character
 pub name_first : (names : Text) → names ≢ [] → slice_index names 0 < 128 → first_char names ≡ slice_index names 0 ∷ []
-name_first [] filled ascii = absurd (filled refl)
-name_first (byte ∷ rest) filled ascii = Steps.first_byte byte rest ascii
+name_first names filled ascii = grind (arith, common_steps, Steps.first_byte)
 
 -- names of no length
 pub empty_names : (names : Text) → (length names == 0) ≡ true → names ≡ []
-empty_names [] empty = refl
-empty_names (byte ∷ rest) empty = search rules
+empty_names names empty = grind (arith, common_steps)
 
 -- names that aren't empty have a first one
 pub names_length : (names : Text) → names ≢ [] → 0 < length names
-names_length [] filled = absurd (filled refl)
-names_length (byte ∷ rest) filled = search rules
+names_length names filled = grind (arith, common_steps)
 
 -- the first byte of a text, as a text
 pub first_name : (names : Text) → names ≢ [] → slice_range names 0 1 ≡ slice_index names 0 ∷ []
-first_name [] filled = absurd (filled refl)
-first_name (byte ∷ rest) filled = refl
+first_name names filled = search rules
 
 -- items that are well followed still are with one more item
 followed-item : (items : List Spec.Item) (item : Spec.Item) (left : List Text)
@@ -94,8 +73,15 @@ AreBeforeWords-item {grammar} {line} {items} item left read_to begins =
 -- between words, no word is half read
 pub AreBeforeWords-between : {grammar : Grammar} {line : List Text} {items : List Spec.Item} {names : Text}
     {words : List Text} → names ≡ [] → AreBefore grammar line items names words → AreBeforeWords grammar line items words
-AreBeforeWords-between empty (between_words none read) = read
-AreBeforeWords-between empty (within_word before word filled has begun items_are read) = absurd (filled empty)
+AreBeforeWords-between empty read_to = search rules
+
+-- items that were read, and then a valid tail, are the reading of the line
+pub read-tail : {grammar : Grammar} → HasTextNames grammar → {line : List Text} {items : List Spec.Item} {names : Text}
+    {words : List Text} (tail : Spec.Tail) → Spec.IsLawfulTail grammar tail → names ≡ [] → words ≡ Spec.tail_words tail
+    → AreBefore grammar line items names words → read grammar line ≡ Ok (record { items = items; tail = tail })
+read-tail {grammar} named {line} {items} {names} {words} tail lawful none words_are read_to =
+    let before = AreBeforeWords-between none read_to in
+    reading_read grammar named (record { items = items; tail = tail }) line (search rules)
 
 -- one option or free word more, from an item in place of one that gave less
 HasOneMore-item : {grammar : Grammar} {line : List Text} {before items : List Spec.Item} {word : Text}
@@ -133,12 +119,6 @@ record IsInWord (grammar : Grammar) (line : List Text) (items : List Spec.Item) 
       ++ map (Spec.at_position (Spec.word_count before))
       (Spec.options_in (Spec.given_by grammar (Spec.cluster has.bytes Spec.flags)))
 
--- a word in short form, before its first name
-abbrev unflagged : {grammar : Grammar} {word names : Text} → IsShortForm grammar word names
-    → Spec.HasAfterFlags grammar word names
-unflagged form =
-    record { bytes = []; ordinary = form.ordinary; word_is = form.word_is; second = form.second; each = tt }
-
 module _ {grammar : Grammar} {line words : List Text} {items : List Spec.Item} {names : Text} where
   -- after a flag
   IsInWord-within : names ≢ [] → AreBefore grammar line items names words → IsInWord grammar line items names words
@@ -158,7 +138,7 @@ module _ {grammar : Grammar} {line words : List Text} {items : List Spec.Item} {
   IsInWord-begins {word} form read_to = record {
     before = items;
     word = word;
-    has = unflagged form;
+    has = record { bytes = []; ordinary = form.ordinary; word_is = form.word_is; second = form.second; each = tt };
     read_to = AreBeforeWords-between refl read_to;
     order = sym (append-nil _);
     occurrences = sym (append-nil _);
@@ -189,14 +169,13 @@ module _ {grammar : Grammar} (named : HasTextNames grammar) (line words : List T
 
   module _ {position : ℕ} (here : position ≡ length line - (1 + length words)) {items : List Spec.Item} where
     -- a word that gives one option or free word
-    HasOneMore-word : (word : Text) (item : Spec.Item) (argument : Spec.Argument) {given : Spec.Given} {left : List Text}
-        → step grammar word words ≡ takes item argument → words ≡ Spec.argument_words argument ++ left
-        → Spec.given_by grammar item ≡ given ∷ [] → AreBefore grammar line items [] (word ∷ words)
-        → HasOneMore grammar line items position given [] left
-    HasOneMore-word word item argument is after_is gives read_to =
+    HasOneMore-word : (word : Text) (item : Spec.Item) {given : Spec.Given} {left : List Text}
+        → Steps.BeginsWith grammar (word ∷ words) item left → Spec.given_by grammar item ≡ given ∷ []
+        → AreBefore grammar line items [] (word ∷ words) → HasOneMore grammar line items position given [] left
+    HasOneMore-word word item {left = left} begins gives read_to =
         let read = AreBeforeWords-between refl read_to in
         HasOneMore-item item [] read here gives (sym (append-nil _)) (sym (append-nil _))
-        (AreBefore-item item argument read is after_is)
+        (between_words refl (AreBeforeWords-item item left read begins))
 
     -- a flag in a cluster
     HasOneMore-flag : (byte : ℕ) (names : Text) → Spec.IsFlag grammar byte
@@ -213,13 +192,11 @@ module _ {grammar : Grammar} (named : HasTextNames grammar) (line words : List T
               let form = Steps.short_of grammar inside.word (byte ∷ []) has (filled-append has.bytes byte []) in
               AreBefore-item (Spec.cluster (has.bytes ++ byte ∷ []) Spec.flags) Spec.none inside.read_to
               (Steps.short_step_byte grammar inside.word has.bytes byte [] words (Some No) form has.each flag) refl
-          more (c ∷ names) has = within_word inside.before inside.word (λ e. cc e) (record {
-            bytes = has.bytes ++ byte ∷ [];
-            ordinary = has.ordinary;
-            word_is = search (rules, append_assoc);
-            second = search (rules, append_assoc);
-            each = every_append (Spec.IsFlag grammar) has.bytes (byte ∷ []) has.each (flag, tt);
-          }) (filled-append has.bytes byte []) refl inside.read_to
+          more (c ∷ names) has = within_word inside.before inside.word (λ e. cc e) (search (
+            rules,
+            append_assoc,
+            every_append (Spec.IsFlag grammar) has.bytes (byte ∷ []) has.each (flag, tt),
+          )) (filled-append has.bytes byte []) refl inside.read_to
 
     -- the last option in a cluster
     HasOneMore-last : (byte : ℕ) (text : Text) (kind : HasArg) (argument : Spec.Argument) {left : List Text}
@@ -237,15 +214,6 @@ module _ {grammar : Grammar} (named : HasTextNames grammar) (line words : List T
 
 -- ---- what is next
 
--- the words after an argument
-left_after : (words : List Text) (argument : Spec.Argument) {left : List Text} → words ≡ Spec.argument_words argument ++ left
-    → drop (length (Spec.argument_words argument)) words ≡ left
-left_after words argument {left} is = rw is (drop-append_seam (Spec.argument_words argument) left)
-
-less : (word : Text) {words : List Text} (argument : Spec.Argument) (left : List Text) → words ≡ Spec.argument_words argument ++ left
-    → 0 + words_size left < 0 + words_size (word ∷ words)
-less word argument left is = omega (arith, ap words_size is, words_size-left (Spec.argument_words argument) left)
-
 -- the error of a word is that of the whole line
 line_fault : {grammar : Grammar} → HasTextNames grammar → {line : List Text} {items : List Spec.Item} {word : Text}
     (words : List Text) {fault : Fault} → AreBeforeWords grammar line items (word ∷ words)
@@ -256,26 +224,20 @@ line_fault named words read_to is = search (rules, items_read, read_step)
 end_chosen : (kind : HasArg) (name text : Text) (words : List Text) (argument : Spec.Argument) → kind ≢ No
     → chosen_end kind name text words ≡ Ok argument → Spec.FitsKind kind (Spec.value_of argument)
     × (words ≡ Spec.argument_words argument ++ drop (length (Spec.argument_words argument)) words)
-end_chosen No name text words argument other is = absurd (other refl)
-end_chosen Yes name [] [] argument other is = absurd (cc is)
-end_chosen Yes name [] (word ∷ words) argument other is = search rules
-end_chosen Yes name (byte ∷ text) words argument other is = search rules
-end_chosen Maybe name [] [] argument other is = search rules
-end_chosen Maybe name [] (word ∷ words) argument other is = search (rules, cases_Bool)
-end_chosen Maybe name (byte ∷ text) words argument other is = search rules
+end_chosen kind name text words argument other is = search rules
 
 -- This is next of these names and words: the error of each line of which they are left, a tail, or
 -- an option or free word, which is declared.
-pub data IsNext (options : Declared) (names : Text) (words : List Text) (frees : Option (List Text)) : Next → Type 0 where
-  is_error : {fault : Fault} → ((line : List Text) (items : List Spec.Item)
+pub data IsNext (options : Declared) (names : Text) (words : List Text) (frees : Option (List Text)) (result : Next) : Type 0 where
+  is_error : {fault : Fault} → result ≡ Err fault → ((line : List Text) (items : List Spec.Item)
       → AreBefore (grammar_of options) line items names words → read (grammar_of options) line ≡ Err fault)
-      → IsNext options names words frees (Err fault)
-  is_tail : (tail : Spec.Tail) → names ≡ [] → Spec.IsLawfulTail (grammar_of options) tail → words ≡ Spec.tail_words tail
-      → IsNext options names words frees (next_free (Spec.tail_frees tail))
+      → IsNext options names words frees result
+  is_tail : (tail : Spec.Tail) → result ≡ next_free (Spec.tail_frees tail) → names ≡ []
+      → Spec.IsLawfulTail (grammar_of options) tail → words ≡ Spec.tail_words tail → IsNext options names words frees result
   is_one : {given : Spec.Given} {names_left : Text} {left : List Text}
+      → result ≡ Ok (Some (given, record { names = names_left; words = left; free_words = frees }))
       → GivesOne (grammar_of options) names words names_left left given → IsDeclared options.groups given
-      → IsNext options names words frees
-      (Ok (Some (given, record { names = names_left; words = left; free_words = frees })))
+      → IsNext options names words frees result
 
 module _ (options : Declared) (named : HasTextNames (grammar_of options)) (frees : Option (List Text)) where
   abbrev grammar : Grammar
@@ -284,9 +246,7 @@ module _ (options : Declared) (named : HasTextNames (grammar_of options)) (frees
   -- the option that a name means
   declared-name : (name : Text) (value : Option Text) (kind : HasArg) → grammar.kind name ≡ Some kind → Spec.FitsKind kind value
       → IsDeclared options.groups (Spec.given_option (Spec.mention_of grammar name value))
-  declared-name name value kind is fits =
-      let group = (IsGood-mention options name kind value is fits).fits in
-      (FitsGroup-within options.groups _ group, rw group.1 group.2)
+  declared-name name value kind is fits = grind (arith, common_steps)
 
   -- A name of a cluster.
   module _ (byte : ℕ) (names : Text) (words : List Text) {names_old : Text} {words_old : List Text}
@@ -297,14 +257,14 @@ module _ (options : Declared) (named : HasTextNames (grammar_of options)) (frees
         → chosen_end kind (byte ∷ []) names words ≡ chosen → IsNext options names_old words_old frees
         (next_by_step grammar (record { names = []; words = words; free_words = frees })
         (chosen_step (λ a. Spec.cluster [] (Spec.ends_in byte a)) chosen))
-    IsNext-last kind other is (Err fault) chosen_is = is_error (λ line items read_to.
+    IsNext-last kind other is (Err fault) chosen_is = is_error refl (λ line items read_to.
         let here = inside line items read_to in
         line_fault named words here.read_to (step-inside words here.has (Some kind) is
         ∙ Steps.byte_step-end kind here.has.bytes byte names words _ other
         ∙ ap (chosen_step (λ a. Spec.cluster here.has.bytes (Spec.ends_in byte a))) chosen_is))
     IsNext-last kind other is (Ok argument) chosen_is =
         let fits = end_chosen kind (byte ∷ []) names words argument other chosen_is in
-        is_one (record {
+        is_one refl (record {
           reads = λ line items read_to. HasOneMore-last named line words (rw begins refl) byte names kind argument is
               other chosen_is fits.1 (inside line items read_to);
           less = omega (
@@ -318,9 +278,9 @@ module _ (options : Declared) (named : HasTextNames (grammar_of options)) (frees
 
     IsNext-name : (kind : Option HasArg) → grammar.kind (byte ∷ []) ≡ kind → IsNext options names_old words_old frees
         (next_name kind grammar byte (record { names = names; words = words; free_words = frees }))
-    IsNext-name None is = is_error (λ line items read_to.
+    IsNext-name None is = is_error refl (λ line items read_to.
         let here = inside line items read_to in line_fault named words here.read_to (step-inside words here.has None is))
-    IsNext-name (Some No) is = is_one (record {
+    IsNext-name (Some No) is = is_one refl (record {
       reads = λ line items read_to. HasOneMore-flag named line words (rw begins refl) byte names is (inside line items read_to);
       less = omega (arith, less);
     }) (declared-name (byte ∷ []) None No is tt)
@@ -329,57 +289,53 @@ module _ (options : Declared) (named : HasTextNames (grammar_of options)) (frees
 
   -- A word that isn't in short form.
   module _ (word : Text) (words : List Text) (plain : (names : Text) → IsShortForm grammar word names → ⊥) where
-    IsNext-item : (item : Spec.Item) (argument : Spec.Argument) → step grammar word words ≡ takes item argument
-        → (left : List Text) → words ≡ Spec.argument_words argument ++ left → Steps.BeginsWith grammar (word ∷ words) item left
-        → IsNext options [] (word ∷ words) frees
+    IsNext-given : (item : Spec.Item) (argument : Spec.Argument) (left : List Text) → words ≡ Spec.argument_words argument ++ left
+        → Steps.BeginsWith grammar (word ∷ words) item left → (given : Spec.Given) → Spec.given_by grammar item ≡ given ∷ []
+        → IsDeclared options.groups given → IsNext options [] (word ∷ words) frees
         (next_by_step grammar (record { names = []; words = words; free_words = frees }) (takes item argument))
-    IsNext-item (Spec.cluster bytes end) argument is left after_is begins =
+    IsNext-given item argument left after_is begins given gives declared =
+        is_one (rw (gives, after_is, drop-append_seam (Spec.argument_words argument) left) refl) (record {
+          reads = λ line items read_to. HasOneMore-word named line words (omega arith) word item begins gives read_to;
+          less = omega (arith, ap words_size after_is, words_size-left (Spec.argument_words argument) left);
+        }) declared
+
+    IsNext-item : (item : Spec.Item) (argument : Spec.Argument) (left : List Text) → words ≡ Spec.argument_words argument ++ left
+        → Steps.BeginsWith grammar (word ∷ words) item left → IsNext options [] (word ∷ words) frees
+        (next_by_step grammar (record { names = []; words = words; free_words = frees }) (takes item argument))
+    IsNext-item (Spec.cluster bytes end) argument left after_is begins =
         let same : word ≡ Spec.dash ∷ (bytes ++ Spec.end_text end) = cc begins.spells in
         absurd (plain (bytes ++ Spec.end_text end) (rw same (Steps.lawful_short grammar bytes end begins.lawful)))
-    IsNext-item (Spec.free free) argument is left after_is begins = rw (left_after words argument after_is) (is_one (record {
-      reads = λ line items read_to. HasOneMore-word named line words (omega arith) word (Spec.free free) argument is after_is
-          refl read_to;
-      less = less word argument left after_is;
-    }) tt)
-    IsNext-item (Spec.long dashes name value) argument is left after_is begins =
+    IsNext-item (Spec.free free) argument left after_is begins =
+        IsNext-given (Spec.free free) argument left after_is begins (Spec.free_word free) refl tt
+    IsNext-item (Spec.long dashes name value) argument left after_is begins =
         let resolves = begins.lawful.resolves in
-        rw (left_after words argument after_is) (is_one (record {
-          reads = λ line items read_to. HasOneMore-word named line words (omega arith) word (Spec.long dashes name value)
-              argument is after_is refl read_to;
-          less = less word argument left after_is;
-        }) (declared-name name (Spec.value_of value) resolves.0 resolves.1 (FitsKind-long resolves.0 value resolves.2)))
+        IsNext-given (Spec.long dashes name value) argument left after_is begins _ refl
+        (declared-name name (Spec.value_of value) resolves.0 resolves.1 (FitsKind-long resolves.0 value resolves.2))
 
     IsNext-step : (taken : Step) → step grammar word words ≡ taken → IsNext options [] (word ∷ words) frees
         (next_by_step grammar (record { names = []; words = words; free_words = frees }) taken)
     IsNext-step (ends tail) is =
-        let sound = rw is at (Steps.step_sound grammar named word words) in is_tail tail refl sound.0 (sym sound.1)
-    IsNext-step (faults fault) is = is_error (λ line items read_to. line_fault named words (AreBeforeWords-between refl read_to) is)
+        let sound = rw is at (Steps.step_sound grammar named word words) in is_tail tail refl refl sound.0 (sym sound.1)
+    IsNext-step (faults fault) is = is_error refl (λ line items read_to. line_fault named words (AreBeforeWords-between refl read_to) is)
     IsNext-step (takes item argument) is =
         let sound = rw is at (Steps.step_sound grammar named word words) in
-        IsNext-item item argument is sound.0 sound.1 sound.2
+        IsNext-item item argument sound.0 sound.1 sound.2
 
   IsNext-word : (word : Text) (words : List Text) → IsNext options [] (word ∷ words) frees
       (next_word grammar word (record { names = []; words = words; free_words = frees }))
   IsNext-word [] words = IsNext-step [] words (λ names form. cc form.word_is) (step grammar [] words) refl
   IsNext-word (first ∷ []) words = IsNext-step (first ∷ []) words (λ names form. form.filled (cc form.word_is)) (step grammar (first ∷ []) words) refl
   IsNext-word (first ∷ second ∷ names) words =
-      by_form ((first == Spec.dash) && (not (second == Spec.dash) && not options.long_only)) refl where
-        by_form : (short : Bool) → ((first == Spec.dash) && (not (second == Spec.dash) && not options.long_only)) ≡ short
-            → IsNext options [] ((first ∷ second ∷ names) ∷ words) frees
-            (if short then next_name (grammar.kind (second ∷ [])) grammar second (record { names = names; words = words; free_words = frees })
-            else next_by_step grammar (record { names = []; words = words; free_words = frees })
-            (step grammar (first ∷ second ∷ names) words))
-        by_form false long = IsNext-step (first ∷ second ∷ names) words (λ text form. search rules)
-            (step grammar (first ∷ second ∷ names) words) refl
-        by_form true short =
-            let dashed = and_parts (first == Spec.dash) (not (second == Spec.dash) && not options.long_only) short in
-            let once = and_parts (not (second == Spec.dash)) (not options.long_only) dashed.1 in
-            let form : IsShortForm grammar (first ∷ second ∷ names) (second ∷ names) = search rules in
-            IsNext-name second names words (λ line items. IsInWord-begins form) (omega arith) (omega arith)
-            (grammar.kind (second ∷ [])) refl
+      elim (cases_Bool ((first == Spec.dash) && (not (second == Spec.dash) && not options.long_only))) [
+        | inr long ↦ rw long (IsNext-step (first ∷ second ∷ names) words (λ text form. search rules) (step grammar (first ∷ second ∷ names) words) refl)
+        | inl short ↦
+            let form : IsShortForm grammar (first ∷ second ∷ names) (second ∷ names) = search (rules, and_parts) in
+            rw short (IsNext-name second names words (λ line items. IsInWord-begins form) (omega arith) (omega arith)
+            (grammar.kind (second ∷ [])) refl)
+      ]
 
   pub next : (names : Text) (words : List Text) → IsNext options names words frees (next_option grammar names words frees)
-  next [] [] = is_tail Spec.no_tail refl tt refl
+  next [] [] = is_tail Spec.no_tail refl refl tt refl
   next [] (word ∷ words) = IsNext-word word words
   next (byte ∷ names) words = IsNext-name byte names words (λ line items. IsInWord-within (λ e. cc e)) refl (omega arith)
       (grammar.kind (byte ∷ [])) refl
@@ -395,16 +351,12 @@ Says options left (Ok (Some (given, after))) = IsDeclared options.groups given �
 
 pub frees_say : (options : Declared) (left : Left) (tail : Spec.Tail) → left.words ≡ Spec.tail_words tail
     → Says options left (next_free (Spec.tail_frees tail))
-frees_say options left Spec.no_tail is = tt
-frees_say options left (Spec.stop []) is = tt
-frees_say options left (Spec.stop (word ∷ others)) is = (tt, omega (arith, ap words_size is), λ among. absurd (cc among))
-frees_say options left (Spec.rest []) is = tt
-frees_say options left (Spec.rest (word ∷ others)) is = (tt, omega (arith, ap words_size is), λ among. absurd (cc among))
+frees_say options left tail is = search rules
 
 pub said : (options : Declared) → HasTextNames (grammar_of options) → (left : Left) {result : Next}
     → next_option (grammar_of options) left.names left.words left.free_words ≡ result → Says options left result
-said options named left is = rw is at (says (next options named left.free_words left.names left.words)) where
-  says : {result : Next} → IsNext options left.names left.words left.free_words result → Says options left result
-  says (is_error fails) = fails
-  says (is_tail tail none lawful words_are) = frees_say options left tail words_are
-  says (is_one reads declared) = (declared, reads.less, λ among. reads)
+said options named left is = elim (next options named left.free_words left.names left.words) [
+  | is_error told fails ↦ rw (sym is ∙ told) fails
+  | is_tail tail told none lawful words_are ↦ rw (sym is ∙ told) (frees_say options left tail words_are)
+  | is_one told reads declared ↦ rw (sym is ∙ told) (declared, reads.less, λ among. reads)
+]

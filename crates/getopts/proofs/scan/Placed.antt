@@ -1,5 +1,5 @@
 -- A line that was read up to a place: what it has so far, and what it gives at its end.
-use Rattle.std.proofs.Common.{◌≡◌, ◌≤◌, ℕ, List, [], ◌∷◌, ◌++◌, ◌+◌, ◌∙◌, rules, length, sym, ap, map}
+use Rattle.std.proofs.Common.{sym, ◌≡◌, ◌≤◌, ℕ, List, [], ◌∷◌, ◌++◌, ◌+◌, ◌∙◌, rules, length, map}
 use Rattle.std.proofs.lemmas.List.{length-map}
 use Rattle.std.specs.String.{string_bytes}
 use Rattle.getopts.specs.Names.{Text}
@@ -10,9 +10,8 @@ use Rattle.getopts.specs.Scan.{AreBefore, GivesLine, words_left, HasOneMore, pla
 use Rattle.getopts.specs.declared.scan.Line.{Line}
 use Rattle.getopts.proofs.Reading.Positions.{frees_in-append, frees_in-items, length-spelled_all}
 use Rattle.getopts.proofs.Reading.Reader.{HasTextNames}
-use Rattle.getopts.proofs.Reading.Readings.{reading_read}
-use Rattle.getopts.proofs.scan.Loop.{IsReading-tail}
-use Rattle.getopts.proofs.scan.One.{AreBeforeWords-between}
+use Rattle.getopts.proofs.scan.Next.{tail_words-tail_of}
+use Rattle.getopts.proofs.scan.One.{read-tail}
 
 -- no more words are left than the line has
 words_left-within : {grammar : Grammar} {whole : List Text} {items : List Spec.Item} (names : Text)
@@ -39,7 +38,7 @@ module _ {grammar : Grammar} {found : List Spec.Occurrence} {frees : List Text} 
     items = one.all;
     read_to = one.read;
     found_are = search rules;
-    frees_are = search (rules, sym (frees_in-items grammar one.all), frees_in-append, frees_in-items);
+    frees_are = search (rules, frees_in-append, frees_in-items);
   }
 
   -- with the tail, the line gives its reading
@@ -49,7 +48,7 @@ module _ {grammar : Grammar} {found : List Spec.Occurrence} {frees : List Text} 
       → GivesLine grammar (read grammar whole) line
   GivesLine-ended named none lawful line found_is free_is trailing_is = record {
     reading = record { items = so_far.items; tail = tail_of words };
-    result_is = reading_read grammar named _ whole (IsReading-tail (AreBeforeWords-between none so_far.read_to) lawful);
+    result_is = read-tail named (tail_of words) lawful none (sym (tail_words-tail_of words)) so_far.read_to;
     occurrences = found_is ∙ so_far.found_are;
     free = rw so_far.frees_are at free_is;
     trailing = rw so_far.frees_are at trailing_is;
@@ -58,8 +57,7 @@ module _ {grammar : Grammar} {found : List Spec.Occurrence} {frees : List Text} 
 -- words that are left, by their texts
 pub words_left-map : {S : Type 0} (text : S → Text) (names : Text) (words : List S)
     → words_left names (map text words) ≡ words_left names words
-words_left-map text [] words = length-map words text
-words_left-map text (name ∷ names) words = ap (λ n. 1 + n) (length-map words text)
+words_left-map text names words = search (rules, length-map)
 
 -- no more words are left than the line has
 pub words_left-more : {S : Type 0} (text : S → Text) {grammar : Grammar} {items : List Spec.Item} {position : ℕ}

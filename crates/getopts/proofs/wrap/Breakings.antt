@@ -11,6 +11,7 @@ use Rattle.getopts.specs.Names.{Text}
 use Rattle.getopts.specs.Wrap.{Run, FitsIn, NoneTakesMore, IsTightBreaking, IsFewestBreaking}
 use Rattle.getopts.specs.UsageResults.{has_room, runs_from, runs_of}
 use Rattle.getopts.proofs.Lists.{Within, cuts}
+use Rattle.std.proofs.lemmas.Grind.{common_steps}
 
 -- ---- filling row after row
 
@@ -109,11 +110,8 @@ runs_of-only limit words ((word ∷ more) ∷ runs) tight =
 ends_with : (limit : ℕ) (front run back : Run) (runs : List Run) (word : Text) (more : List Text)
     → NoneTakesMore limit (run ∷ runs) → All (λ run. 0 < length run) (run ∷ runs) → words_in runs ≡ word ∷ more
     → FitsIn limit (front ++ (run ++ word ∷ back)) → ⊥
-ends_with limit front run back [] word more tight nonempty is fits = cc is
-ends_with limit front run back ([] ∷ runs) word more tight nonempty is fits = search (rules, All-head, All-tail)
-ends_with limit front run back ((next ∷ rest) ∷ runs) word more tight nonempty is fits =
-    tight.0 (FitsIn-inside limit front (run ++ next ∷ []) back (omega (arith, length-append run (next ∷ [])))
-    (search (rules, append_assoc)))
+ends_with limit front run back runs word more tight nonempty is fits =
+    grind (arith, common_steps, All-head, All-tail, FitsIn-inside, length-append, append_assoc)
 
 -- Run by run: the first of the other runs ends with the first tight run, or before.
 -- a fitting breaking has no fewer runs than a tight one, even if it breaks words before these too

@@ -1,13 +1,13 @@
 -- The rows of a description, line after line, and their properties.
-use Rattle.std.proofs.Common.{◌≡◌, ◌≢◌, ◌<◌, ◌∙◌, ℕ, zero, suc, true, false, if◌then◌else◌}
-use Rattle.std.proofs.Common.{List, [], ◌∷◌, ◌++◌, length, get_or, map, ap, append-nil, arith, refl}
-use Rattle.std.proofs.Common.{rules}
+use Rattle.std.proofs.Common.{◌≡◌, ◌≢◌, ◌<◌, ◌∙◌, ℕ, zero, suc, true, false, if◌then◌else◌, List, [], ◌∷◌, ◌++◌}
+use Rattle.std.proofs.Common.{length, get_or, map, ap, append-nil, arith, refl, rules}
 use Rattle.std.specs.List.{AllZip}
 use Rattle.std.proofs.lemmas.List.{map-append}
 use Rattle.std.proofs.lemmas.List.Concat.{flat_map-append}
 use Rattle.getopts.specs.Names.{Text}
 use Rattle.getopts.specs.Only.{IsTheOnly}
-use Rattle.getopts.specs.Wrap.{Run, text_of, IsTightBreaking, IsFewestBreaking, words_of, BreaksInto, IsDescriptionRows}
+use Rattle.getopts.specs.Wrap.{Run, text_of, IsTightBreaking, IsFewestBreaking, words_of, BreaksInto}
+use Rattle.getopts.specs.Wrap.{IsDescriptionRows}
 use Rattle.getopts.specs.UsageResults.{has_room, runs_from, runs_of, rows_of, description_rows}
 use Rattle.getopts.proofs.Only.{IsTheOnly-from, map_is_the_only, meets}
 use Rattle.getopts.proofs.wrap.Breakings.{runs_of-tight, runs_of-only, runs_of-is_fewest}
@@ -34,9 +34,7 @@ some (run ∷ runs) more filled none = cc none
 
 none_of : (limit : ℕ) (words : List Text) (more : List Run)
     → map text_of (runs_of limit words ++ more) ≡ [] → words ≡ []
-none_of limit [] more none = refl
-none_of limit (word ∷ words) more none =
-    absurd (some _ more (runs_from-filled limit (word ∷ []) words) none)
+none_of limit words more none = search (rules, some, runs_from-filled)
 
 after_none : (runs more : List Run) → map text_of (runs ++ more) ≡ [] → map text_of more ≡ []
 after_none [] more none = none

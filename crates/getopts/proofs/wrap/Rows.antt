@@ -1,6 +1,6 @@
 -- The rows of a line, while they are filled word after word.
 use Rattle.std.proofs.Common.{◌≡◌, ℕ, ◌+◌, ◌<◌, ◌≤◌, false, List, [], ◌∷◌, ◌++◌, length, map, refl, sym, ap}
-use Rattle.std.proofs.Common.{append_assoc, append-nil, arith, length-append, rules}
+use Rattle.std.proofs.Common.{append_assoc, arith, length-append, rules}
 use Rattle.std.specs.Str.{IsUtf8}
 use Rattle.std.proofs.lemmas.Bool.{le-leb, lt-leb}
 use Rattle.std.proofs.lemmas.List.Sums.{sum_by-append, sum_by-cons}
@@ -33,11 +33,6 @@ pub record RowsSoFar (limit : ℕ) (line : Text) (before rows : List Text) (row 
   pub utf8 : IsUtf8 rest
   pub to_come : rows ++ map text_of (runs_from limit run (words_of rest))
       ≡ before ++ map text_of (runs_of limit (words_of line))
-
--- a line without words adds nothing
-pub adds_none : (limit : ℕ) (line : Text) (rows : List Text) → words_of line ≡ []
-    → rows ≡ rows ++ map text_of (runs_of limit (words_of line))
-adds_none limit line rows none = cc (append-nil rows)
 
 -- the first word begins a row
 pub rows_begin : (limit : ℕ) (line : Text) (rows : List Text) (row word : Text) (columns : ℕ)
@@ -75,9 +70,3 @@ module _ {limit : ℕ} {line : Text} {before rows : List Text} {row : Text} {col
         utf8 = next.0;
         to_come = search (rules, append_assoc, runs_from-refused);
       }
-
--- with no words left, the current row is the last
-pub rows_finish : (limit : ℕ) (line : Text) (before rows : List Text) (row : Text) (columns : ℕ)
-    (rest : Text) → RowsSoFar limit line before rows row columns rest → words_of rest ≡ []
-    → rows ++ row ∷ [] ≡ before ++ map text_of (runs_of limit (words_of line))
-rows_finish limit line before rows row columns rest so_far none = search rules

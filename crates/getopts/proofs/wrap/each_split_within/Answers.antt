@@ -1,5 +1,5 @@
 -- The rows are those of all lines.
-use Rattle.std.proofs.Common.{◌≡◌, [], ◌∷◌, map, string_bytes, lit<, ap, ◌∙◌, subst, sym}
+use Rattle.std.proofs.Common.{◌≡◌, [], ◌∷◌, map, string_bytes, lit<, ap, ◌∙◌, subst, sym, rules}
 use Rattle.std.specs.Str.Iter.{split_text, split_has_more, split_pattern}
 use Rattle.std.proofs.lemmas.Iterator.Consumers.{YieldsList-end, YieldsList-turn}
 use Rattle.std.proofs.lemmas.Iterator.Splits.{YieldsList-from_str_split}
@@ -7,7 +7,6 @@ use Rattle.std.proofs.lemmas.List.{map-append}
 use Rattle.getopts.specs.Only.{IsTheOnly}
 use Rattle.getopts.specs.Wrap.{IsDescriptionRows}
 use Rattle.getopts.specs.UsageResults.{rows_of, description_rows}
-use Rattle.getopts.proofs.Only.{meets}
 use Rattle.getopts.proofs.wrap.Lines.{rows_of-none, rows_of-push, description_rows-only, rows_fewest}
 use Rattle.getopts.proofs.wrap.each_split_within.Goals as goal
 
@@ -50,5 +49,4 @@ returns-clause-rows c = subst (IsTheOnly (IsDescriptionRows c.args.lim c.args.de
     (sym (computed c)) (description_rows-only c.args.lim c.args.desc.now)
 
 pub returns-clause-fewest : goal.returns-clause-fewest
-returns-clause-fewest c =
-    rows_fewest c.args.lim c.args.desc.now _ (meets _ _ (returns-clause-rows c))
+returns-clause-fewest c = search (rules, rows_fewest, returns-clause-rows)

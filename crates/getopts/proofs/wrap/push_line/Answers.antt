@@ -1,20 +1,17 @@
 -- A line's words fill rows, which are added to the rows before.
-use Rattle.std.proofs.Common.{◌≢◌, ◌+◌, ◌<◌, [], ◌∷◌, string_bytes, lit<, arith, ap, ◌∙◌, sym, subst}
+use Rattle.std.proofs.Common.{◌≢◌, ◌+◌, ◌<◌, [], ◌∷◌, string_bytes, lit<, arith, ap, ◌∙◌, sym, subst, rules}
 use Rattle.std.specs.Str.{IsUtf8}
 use Rattle.std.specs.Str.Iter.{split_whitespace_rest}
 use Rattle.std.proofs.lemmas.List.{map-append}
 use Rattle.getopts.specs.Wrap.{width_of, words_of}
 use Rattle.getopts.proofs.wrap.Words.{words_of-none, words_of-step, words_of-filled}
-use Rattle.getopts.proofs.wrap.Rows.{adds_none, rows_begin, rows_take, rows_end, rows_finish}
+use Rattle.getopts.proofs.wrap.Rows.{rows_begin, rows_take, rows_end}
 use Rattle.getopts.proofs.wrap.push_line.Goals as goal
 use Rattle.getopts.proofs.wrap.push_line.Goals.{In-Some}
 
 -- the line has no word
 pub returns-in-None-clause-rows : goal.returns-in-None-clause-rows
-returns-in-None-clause-rows c =
-    let is_line = c.split_whitespace-words.ensures.rest in
-    adds_none c.args.lim c.args.line.now _
-    (words_of-none c.args.line.now c.utf8.line (rw is_line at c.in-None.ensures.steps.1))
+returns-in-None-clause-rows c = search (rules, words_of-none)
 
 -- the first word begins a row
 pub loop-word-init : goal.loop-word-init
@@ -62,12 +59,7 @@ loop-word-preserved c =
 
 -- no words are left
 pub returns-clause-rows : goal.returns-clause-rows
-returns-clause-rows c =
-    let none = words_of-none _ c.loop-word.invariant.utf8 c.in-None-word.ensures.steps.1 in
-    rw (
-      c.in_ok-push-3.ensures.items,
-      map-append string_bytes c.loop-word.rows.items (c.loop-word.row ∷ []),
-    ) (rows_finish c.args.lim c.args.line.now _ _ _ _ _ c.loop-word.invariant none)
+returns-clause-rows c = search (rules, words_of-none, map-append)
 
 -- once there is a first word, the line has words
 begun : (c : In-Some) → words_of c.args.line.now ≢ []

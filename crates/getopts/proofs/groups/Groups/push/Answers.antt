@@ -17,12 +17,7 @@ use Rattle.getopts.proofs.groups.Groups.push.Goals as goal
 
 items : (c : goal.After-push_reserved)
     → c.push_reserved.new.self.items ≡ c.self.inside.ends.items ++ c.push_pair-pair.result ∷ []
-items c =
-    search (
-      rules,
-      goal.then-is_empty+in_ok-reserve+in_ok-reserve-2,
-      goal.else-is_empty+in_ok-reserve-3+in_ok-reserve-4,
-    )
+items c = search rules
 
 -- the added signature
 abbrev added : goal.After-push_reserved → Signature
@@ -66,4 +61,4 @@ invariant_of-self-2 c = record {
 }
 
 pub returns-clause-ok : goal.returns-clause-ok
-returns-clause-ok c = search (rules, length-map, signatures, pushed, groups_with-push)
+returns-clause-ok c = search (rules, length-map, pushed, groups_with-push)

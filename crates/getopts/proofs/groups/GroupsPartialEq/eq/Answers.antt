@@ -1,6 +1,6 @@
 -- They are equal if their lengths and the elements at each place are.
-use Rattle.std.proofs.Common.{sym, ◌∙◌}
-use Rattle.std.proofs.lemmas.Bool.{not-true, not-false}
+use Rattle.std.proofs.Common.{sym, ◌∙◌, rules}
+use Rattle.std.proofs.lemmas.Bool.{not-true}
 use Rattle.std.specs.Option.{option_eq}
 use Rattle.getopts.specs.Same.{same_group}
 use Rattle.getopts.proofs.Lists.{pointwise-differ, pointwise-take_more}
@@ -13,9 +13,4 @@ returns-then-ne c =
     ∙ not-true _ (sym c.ne.ensures ∙ c.if-ne.true)))
 
 pub loop-place-preserved : goal.loop-place-preserved
-loop-place-preserved c = record {
-  as_many = c.loop-place.invariant.as_many;
-  same = pointwise-take_more same_group _ _ c.loop-place.place c.loop-place.invariant.same
-      ((λ i. option_eq same_group (sym c.get.ensures i) (sym c.get-in-loop-place.ensures i))
-      ∙ not-false _ (sym c.ne.ensures ∙ c.if-ne.false));
-}
+loop-place-preserved c = search (rules, pointwise-take_more)

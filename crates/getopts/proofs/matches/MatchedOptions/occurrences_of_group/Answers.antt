@@ -1,5 +1,5 @@
 -- The index has the indices of each group's occurrences.
-use Rattle.std.proofs.Common.{◌≡◌, ◌∙◌, length}
+use Rattle.std.proofs.Common.{◌≡◌, ◌∙◌, length, rules}
 use Rattle.getopts.specs.Stored.Index.{index_of}
 use Rattle.getopts.proofs.Stored.Matches.{indexed-within, indexed-occurrences}
 use Rattle.getopts.proofs.matches.MatchedOptions.occurrences_of_group.Goals as goal
@@ -10,8 +10,7 @@ indices_are : (c : After-indices) → c.indices.result.now
 indices_are c = c.indices.ensures ∙ (λ i. c.self.invariant.index i c.args.place)
 
 pub of-requires : goal.of-requires
-of-requires c =
-    rw (indices_are c) (indexed-within c.self.inside.signatures c.self.inside.found c.args.place)
+of-requires c = search (rules, indices_are, indexed-within)
 
 pub returns : goal.returns
 returns c =

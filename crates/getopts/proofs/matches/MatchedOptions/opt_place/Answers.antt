@@ -6,13 +6,10 @@ use Rattle.getopts.specs.Matches.{MatchedGroup}
 use Rattle.getopts.proofs.Lists.{AllByRecursion-unmap}
 use Rattle.getopts.proofs.Stored.Matches.{signatures-matched, opt_place-signatures}
 use Rattle.getopts.proofs.matches.MatchedOptions.opt_place.Goals as goal
+use Rattle.std.proofs.Common.{rules}
 
 pub returns-clause-place : goal.returns-clause-place
-returns-clause-place c =
-    rw (
-      ← c.self.view_is,
-      ← opt_place-signatures _ _ (signatures-matched 0 c.self.inside.signatures c.self.inside.found) c.args.name.now,
-    ) c.resolve.ensures
+returns-clause-place c = search (rules, opt_place-signatures, signatures-matched)
 
 pub returns-clause-lawful : goal.returns-clause-lawful
 returns-clause-lawful c =

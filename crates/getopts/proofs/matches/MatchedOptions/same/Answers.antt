@@ -1,14 +1,14 @@
 -- Groups are equal if their names and kinds are, and the occurrences at each place.
-use Rattle.std.proofs.Common.{◌≡◌, ◌∙◌, List, map, length, sym, ap, arith}
-use Rattle.std.proofs.lemmas.Bool.{not-true, not-false}
+use Rattle.std.proofs.Common.{◌≡◌, ◌∙◌, map, length, sym, rules}
+use Rattle.std.proofs.lemmas.Bool.{not-true}
 use Rattle.std.specs.Cmp.Lexicographic.{pointwise, pointwise_decides}
 use Rattle.getopts.specs.Accessors.{occurrences_of_group}
 use Rattle.getopts.specs.Matches.{MatchedGroup}
 use Rattle.getopts.specs.Same.{same_signature, same_group_occurrence, same_matched_group}
 use Rattle.getopts.proofs.counts.Groups.{length-matched}
 use Rattle.getopts.proofs.Stored.Matches.{signatures-matched, same_occurrences_everywhere}
-use Rattle.getopts.proofs.Stored.Same.{differ, same_group_occurrence-decides}
-use Rattle.getopts.proofs.Stored.Same.{same_matched_group-decides, same_signature-decides}
+use Rattle.getopts.proofs.Stored.Same.{differ, same_group_occurrence-decides, same_matched_group-decides}
+use Rattle.getopts.proofs.Stored.Same.{same_signature-decides}
 use Rattle.getopts.proofs.matches.MatchedOptions.same.Goals as goal
 use Rattle.getopts.proofs.matches.MatchedOptions.same.Goals.{After-ne}
 
@@ -16,16 +16,10 @@ signatures : (c : After-ne)
     → pointwise same_signature (map (λ (group : MatchedGroup). group.signature) c.args.self.now)
     (map (λ (group : MatchedGroup). group.signature) c.args.other.now)
     ≡ pointwise same_signature c.self.inside.signatures c.other.inside.signatures
-signatures c = rw (
-  ← c.self.view_is,
-  ← c.other.view_is,
-  signatures-matched 0 c.self.inside.signatures c.self.inside.found,
-  signatures-matched 0 c.other.inside.signatures c.other.inside.found,
-)
+signatures c = search (rules, signatures-matched)
 
 as_many : (c : After-ne) → length c.args.self.now ≡ length c.self.inside.signatures
-as_many c = ap (λ (groups : List MatchedGroup). length groups) (sym c.self.view_is)
-    ∙ length-matched 0 c.self.inside.signatures c.self.inside.found
+as_many c = search (rules, length-matched)
 
 pub returns-then-ne : goal.returns-then-ne
 returns-then-ne c = sym (differ (pointwise same_matched_group) (pointwise same_signature)
@@ -44,8 +38,4 @@ returns-then-not-same c =
     ∙ sym c.same.ensures ∙ c.if-not-same.true))
 
 pub returns : goal.returns
-returns c =
-    let before = (goal.at.returns c).After-ne in
-    sym (same_occurrences_everywhere c.args.self.now c.args.other.now
-    (signatures before ∙ not-false _ (sym c.ne.ensures ∙ c.if-ne.false))
-    (λ k h. c.loop-place.invariant k (omega (arith, h, as_many before))))
+returns c = search (rules, same_occurrences_everywhere, signatures, as_many)

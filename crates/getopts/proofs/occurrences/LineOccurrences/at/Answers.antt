@@ -1,7 +1,5 @@
 -- The record's value ends where the next one starts.
-use Rattle.std.proofs.Common.{◌≡◌, ◌+◌, rules, arith, slice_get}
-use Rattle.std.proofs.lemmas.Bool.{cases_Bool}
-use Rattle.std.proofs.lemmas.Grind.{common_steps}
+use Rattle.std.proofs.Common.{◌≡◌, ◌+◌, rules, slice_get}
 use Rattle.std.specs.Option.{option_copied}
 use Rattle.std.specs.String.{string_bytes}
 use Rattle.getopts.specs.Stored.Occurrences.{value_in}
@@ -9,22 +7,16 @@ use Rattle.getopts.proofs.Stored.Occurrences.{record_within, occurrence-read, st
 use Rattle.getopts.proofs.occurrences.LineOccurrences.at.Goals as goal
 
 pub index-stored-requires : goal.index-stored-requires
-index-stored-requires c =
-    let within = record_within _ c.self.inside.records.items _ c.self.view_is _ c.requires in
-    omega (arith, within)
+index-stored-requires c = search (rules, record_within)
 
 pub overflow_add-index : goal.overflow_add-index
-overflow_add-index c =
-    let within = record_within _ c.self.inside.records.items _ c.self.view_is _ c.requires in
-    grind (arith, common_steps, within)
+overflow_add-index c = search (rules, record_within)
 
 pub value_from-requires-clause-start : goal.value_from-requires-clause-start
-value_from-requires-clause-start c = rw c.deref.ensures (starts _ c.self.inside.records.items _ c.self.view_is _
-    c.requires c.index-stored.result.now c.index-stored.ensures c.self.invariant)
+value_from-requires-clause-start c = search (rules, starts)
 
 pub value_from-requires-clause-end : goal.value_from-requires-clause-end
-value_from-requires-clause-end c =
-    rw (c.deref.ensures, c.deref-then-stored-eq1.ensures.value) (ends _ c.self.inside.records.items _ c.self.invariant)
+value_from-requires-clause-end c = search (rules, ends)
 
 pub returns : goal.returns
 returns c =
@@ -32,8 +24,8 @@ returns c =
     ≡ value_in (string_bytes c.self.inside.values) c.index-stored.result.now.value
     (slice_get c.self.inside.records.items (c.args.index + 1)) =
     elim c.if-stored-eq1.branch [
-      | goal.then-stored-eq1 w ↦ search (rules, cases_Bool)
-      | goal.else-stored-eq1 w ↦ search (rules, cases_Bool)
+      | goal.then-stored-eq1 w ↦ search rules
+      | goal.else-stored-eq1 w ↦ search rules
     ] in
     rw value (occurrence-read _ c.self.inside.records.items _ c.self.view_is _ c.requires
     c.index-stored.result.now c.index-stored.ensures)

@@ -1,15 +1,10 @@
 -- A group's nth occurrence is the line's occurrence at the nth of the group's indices.
-use Rattle.std.proofs.Common.{get_or, ap, arith, ◌∙◌}
+use Rattle.std.proofs.Common.{get_or, ap, ◌∙◌}
 use Rattle.std.specs.Option.{option_map}
 use Rattle.getopts.specs.Matches.{without_group}
 use Rattle.std.proofs.lemmas.Option.{slice_get-get_or}
 use Rattle.getopts.proofs.Stored.Occurrences.{at_indices-at, index_within}
 use Rattle.getopts.proofs.occurrences.Occurrences.at.Goals as goal
-
-pub offset_bounds-self-inside-nth : goal.offset_bounds-self-inside-nth
-offset_bounds-self-inside-nth c =
-    let within = index_within _ _ c.self.invariant _ _ c.self.view_is c.requires in omega
-    (arith, within, c.self.told)
 
 pub bounds-self-inside-nth : goal.bounds-self-inside-nth
 bounds-self-inside-nth c = index_within _ _ c.self.invariant _ _ c.self.view_is c.requires

@@ -1,6 +1,5 @@
 -- One occurrence less at the end has its value less, if it has one.
-use Rattle.std.proofs.Common.{◌≡◌, ◌∙◌, ℕ, List, [], ◌∷◌, ◌++◌, Some, None, rules}
-use Rattle.std.proofs.Common.{append-nil}
+use Rattle.std.proofs.Common.{◌≡◌, ℕ, List, [], ◌∷◌, ◌++◌, Some, None, rules}
 use Rattle.std.proofs.lemmas.List.Elements.{filter_map-append}
 use Rattle.getopts.specs.Accessors.{values_of}
 use Rattle.getopts.specs.Matches.{GroupOccurrence}
@@ -13,8 +12,7 @@ module _ (rest : List GroupOccurrence) (position : ℕ) where
   with_value value = filter_map-append (λ (o : GroupOccurrence). o.value) rest (record { position = position; value = Some value } ∷ [])
 
   without_value : values_of (rest ++ record { position = position; value = None } ∷ []) ≡ values_of rest
-  without_value = filter_map-append (λ (o : GroupOccurrence). o.value) rest (record { position = position; value = None } ∷ [])
-      ∙ append-nil (values_of rest)
+  without_value = search (rules, filter_map-append)
 
 pub returns-then-is_some : goal.returns-then-is_some
 returns-then-is_some c = search (rules, with_value)

@@ -1,7 +1,6 @@
 -- One more occurrence has its value, if any.
-use Rattle.std.proofs.Common.{ap, arith}
+use Rattle.std.proofs.Common.{arith, rules}
 use Rattle.std.proofs.lemmas.Grind.{common_steps}
-use Rattle.std.specs.Option.{option_copied}
 use Rattle.getopts.specs.Accessors.{borrowed_occurrence}
 use Rattle.getopts.proofs.Stored.Occurrences.{values-more, value_given}
 use Rattle.getopts.proofs.occurrences.Occurrences.values.Goals as goal
@@ -14,11 +13,7 @@ loop-nth-preserved c =
 
 -- it fails only at a value
 pub returns-in_err-from_str-clause-absent : goal.returns-in_err-from_str-clause-absent
-returns-in_err-from_str-clause-absent c none =
-    absurd (value_given c.args.self.now c.loop-nth.nth _ _ c.at.ensures
-    (ap option_copied c.in-Some.is) none)
+returns-in_err-from_str-clause-absent c none = search (rules, value_given)
 
 pub returns-in_err-push-clause-absent : goal.returns-in_err-push-clause-absent
-returns-in_err-push-clause-absent c none =
-    absurd (value_given c.args.self.now c.loop-nth.nth _ _ c.at.ensures
-    (ap option_copied c.in-Some.is) none)
+returns-in_err-push-clause-absent c none = search (rules, value_given)

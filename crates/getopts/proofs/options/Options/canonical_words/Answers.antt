@@ -1,5 +1,5 @@
 -- The order of the accepted words gives their canonical line.
-use Rattle.std.proofs.Common.{◌∙◌, sym, refl, Ok, Some, None}
+use Rattle.std.proofs.Common.{◌∙◌, sym, refl, Ok, Some, None, rules}
 use Rattle.getopts.proofs.MainTheorem.SameContent.{LinesReadAgain_lem}
 use Rattle.getopts.proofs.MainTheorem.Results.{HasResults-declared}
 use Rattle.getopts.proofs.canon.OneResult.{KeepsLineLaws-lawful}
@@ -45,9 +45,7 @@ pub returns-clause-laws : goal.returns-clause-laws
 returns-clause-laws g c = KeepsLineLaws-lawful _ c.names_resolve.ensures.declared
 
 pub returns-then-are_plain-clause-read_again : goal.returns-then-are_plain-clause-read_again
-returns-then-are_plain-clause-read_again g c =
-    LinesReadAgain_lem _ c.names_resolve.ensures.declared (returns-then-are_plain-clause-laws g c)
+returns-then-are_plain-clause-read_again g c = search (rules, LinesReadAgain_lem, returns-then-are_plain-clause-laws)
 
 pub returns-clause-read_again : goal.returns-clause-read_again
-returns-clause-read_again g c =
-    LinesReadAgain_lem _ c.names_resolve.ensures.declared (returns-clause-laws g c)
+returns-clause-read_again g c = search (rules, LinesReadAgain_lem, returns-clause-laws)

@@ -1,6 +1,4 @@
-use Rattle.std.proofs.Common.{◌||◌, Bool, not, ap, sym, ◌∙◌, arith}
-use Rattle.std.proofs.lemmas.List.{take_all}
-use Rattle.getopts.specs.Usage.{any_short}
+use Rattle.std.proofs.Common.{◌||◌, Bool, not, ap, sym}
 use Rattle.getopts.specs.Accessors.{borrowed_group}
 use Rattle.getopts.proofs.usage.Rows.{any_short_more}
 use Rattle.getopts.proofs.options.Options.layout.Goals as goal
@@ -13,10 +11,3 @@ loop-place-preserved c =
     any_short_more groups place (borrowed_group c.get.result) (sym c.get.ensures)
     c.loop-place.any_short _ c.loop-place.invariant
     (ap (λ (empty : Bool). c.loop-place.any_short || not empty) c.is_empty.ensures)
-
--- all groups were visited
-pub returns-clause-any_short : goal.returns-clause-any_short
-returns-clause-any_short c =
-    c.loop-place.invariant
-    ∙ ap any_short (take_all c.loop-place.place c.groups-groups.result.now (omega arith)
-    ∙ c.groups-groups.ensures)

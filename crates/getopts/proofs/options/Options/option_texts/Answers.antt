@@ -1,6 +1,5 @@
-use Rattle.std.proofs.Common.{◌∷◌, [], List, length, map, string_bytes, refl, sym, ap, ◌∙◌, arith}
-use Rattle.std.proofs.lemmas.List.{map-append, take_all}
-use Rattle.getopts.specs.Options.{Group}
+use Rattle.std.proofs.Common.{◌∷◌, [], string_bytes, refl, sym}
+use Rattle.std.proofs.lemmas.List.{map-append}
 use Rattle.getopts.specs.Accessors.{borrowed_group}
 use Rattle.getopts.specs.Usage.{option_text}
 use Rattle.getopts.proofs.Lists.{map-take_more}
@@ -18,10 +17,3 @@ loop-place-preserved c =
       c.new-text.ensures.bytes,
       c.loop-place.invariant,
     ) refl
-
--- all options
-pub returns : goal.returns
-returns c =
-    c.loop-place.invariant
-    ∙ ap (map option_text) (take_all c.loop-place.place c.args.self.now.groups
-    (omega (arith, ap (λ (groups : List Group). length groups) c.groups-groups.ensures)))

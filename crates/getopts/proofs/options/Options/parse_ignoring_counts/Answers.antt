@@ -13,11 +13,7 @@ pub returns-clause-read : goal.returns-clause-read
 returns-clause-read g c = search (rules, is_read)
 
 pub returns-clause-refused : goal.returns-clause-refused
-returns-clause-refused g c =
-    let read = c.read_matches.ensures in
-    MatchResult-weaker c.read_matches.result read.result (λ matches is. tt) (λ fail told.
-    IsOutOfMemoryOr-weaker fail _ _ told
-    (λ fault is. isnt_read _ _ fault is read.declared read.texts))
+returns-clause-refused g c = search (rules, MatchResult-weaker, IsOutOfMemoryOr-weaker, isnt_read)
 
 pub returns-clause-given : goal.returns-clause-given
 returns-clause-given g c =
@@ -30,14 +26,10 @@ returns-clause-trailing g c =
     (returns-clause-read g c)
 
 pub returns-clause-counted : goal.returns-clause-counted
-returns-clause-counted g c =
-    MatchResult-weaker c.read_matches.result c.read_matches.ensures.result
-    (λ matches is. parse_result-counted _ _ matches is) (λ fail told. tt)
+returns-clause-counted g c = search (rules, parse_result-counted)
 
 pub returns-clause-same_error : goal.returns-clause-same_error
-returns-clause-same_error g c =
-    MatchResult-weaker c.read_matches.result c.read_matches.ensures.result (λ matches is. tt)
-    (λ fail told. IsOutOfMemoryOr-weaker fail _ _ told (parse_result-unread _ _))
+returns-clause-same_error g c = search (rules, MatchResult-weaker, IsOutOfMemoryOr-weaker, parse_result-unread)
 
 pub returns-clause-accepted : goal.returns-clause-accepted
 returns-clause-accepted g c =

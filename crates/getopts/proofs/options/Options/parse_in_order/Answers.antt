@@ -1,9 +1,8 @@
 -- The order is that of the line's reading, if this keeps the counts.
 use Rattle.std.proofs.Common.{◌≡◌, append_assoc, Err, IfErr, List, Ok, Result, map, refl, sym, rules}
 use Rattle.std.specs.List.{AllByRecursion}
-use Rattle.std.proofs.lemmas.List.{append-nil, map-append}
+use Rattle.std.proofs.lemmas.List.{map-append}
 use Rattle.std.proofs.lemmas.List.Elements.{All-from_recursion}
-use Rattle.std.proofs.lemmas.Result.{IfErr-weaker}
 use Rattle.getopts.specs.Accessors.{borrowed_given}
 use Rattle.getopts.specs.Fail.{IsOutOfMemoryOr}
 use Rattle.getopts.specs.Parse.{IsDeclared, IsRefused}
@@ -15,9 +14,8 @@ use Rattle.getopts.proofs.Lists.{AllByRecursion-unmap}
 use Rattle.getopts.proofs.Traces.{order-whole}
 use Rattle.getopts.proofs.MainTheorem.Results.{HasResults-declared, is_refused}
 use Rattle.getopts.proofs.table.Names.{has_text_names}
-use Rattle.getopts.proofs.Errors.{IsOutOfMemoryOr-exit, IsOutOfMemoryOr-weaker}
 use Rattle.getopts.proofs.parse.Holds.{IsDeclared-order}
-use Rattle.getopts.proofs.parse.Made.{made_of-err, order-kept, order-broken}
+use Rattle.getopts.proofs.parse.Made.{order-kept, order-broken}
 use Rattle.getopts.proofs.options.Options.parse_in_order.Goals as goal
 use Rattle.getopts.proofs.options.Options.parse_in_order.Goals.{After-check_counts_in_order}
 use Rattle.getopts.proofs.options.Options.parse_in_order.Given.{Over}
@@ -27,16 +25,12 @@ refused : {T : Type 0} (options : Declared) (words : List Text) (result : Result
     → AreTexts words
     → IfErr result (λ fail. IsOutOfMemoryOr fail (λ fault. parse_result options words ≡ Err fault))
     → IfErr result (λ fail. IsOutOfMemoryOr fail (IsRefused options words))
-refused options words result declared texts told =
-    IfErr-weaker result _ _ (λ fail of. IsOutOfMemoryOr-weaker fail _ _ of
-    (λ fault is. is_refused options words fault is declared texts)) told
+refused options words result declared texts told = search (rules, is_refused)
 
 -- what was read of a whole line
 whole : (g : Over) (c : After-check_counts_in_order g) → order_or_error c.args.self.now (map g.S.AsStr.text c.args.words.now)
     ≡ Ok (map borrowed_given c.items.order.items)
-whole g c =
-    let ended = rw (c.in_default.is, c.in_ok-reader.ensures.options) at c.in_ok-given.ensures.trace in
-    rw (ended, append-nil) at c.items.invariant
+whole g c = search rules
 
 pub items-init : goal.items-init
 items-init g c = search (
@@ -46,16 +40,11 @@ items-init g c = search (
 )
 
 pub items-preserved : goal.items-preserved
-items-preserved g c =
-    let read = rw (c.in-Some.is, c.in_ok-reader.ensures.options) at c.in_ok-given.ensures.trace in
-    search (rules, map-append, append_assoc, rw read at c.items.invariant)
+items-preserved g c = search (rules, map-append, append_assoc)
 
 pub returns-in_err-given-clause-same_error : goal.returns-in_err-given-clause-same_error
 unfolding accepted_reading reading_or_error
-returns-in_err-given-clause-same_error g c =
-    IsOutOfMemoryOr-exit _ c.in_err-given.field-0.0 _ _ c.from_residual-in_err-given.ensures.1
-    (rw c.in_ok-reader.ensures.options at c.in_err-given.ensures.trace)
-    (λ fault told. rw (made_of-err _ _ fault (rw told at c.items.invariant)) refl)
+returns-in_err-given-clause-same_error g c = search rules
 
 pub returns-in_err-given-clause-result : goal.returns-in_err-given-clause-result
 unfolding accepted_reading
@@ -69,10 +58,8 @@ returns-in_err-given-clause-refused g c =
 pub returns-in_err-check_counts_in_order-clause-same_error : goal.returns-in_err-check_counts_in_order-clause-same_error
 unfolding accepted_reading reading_or_error
 returns-in_err-check_counts_in_order-clause-same_error g c =
-    IsOutOfMemoryOr-exit _ c.in_err-check_counts_in_order.field-0.0 _ _
-    c.from_residual-in_err-check_counts_in_order.ensures.1
-    (rw (c.signatures-signatures.ensures.signatures, c.deref.ensures.value) at c.in_err-check_counts_in_order.ensures.err)
-    (λ fault first. rw (order-broken c.args.self.now _ _ (whole g (goal.at.returns-in_err-check_counts_in_order-clause-same_error g c).After-check_counts_in_order) fault first) refl)
+    let read = whole g (goal.at.returns-in_err-check_counts_in_order-clause-same_error g c).After-check_counts_in_order in
+    search (rules, order-broken c.args.self.now _ _ read)
 
 pub returns-in_err-check_counts_in_order-clause-result : goal.returns-in_err-check_counts_in_order-clause-result
 unfolding accepted_reading
@@ -85,8 +72,7 @@ returns-in_err-check_counts_in_order-clause-refused g c =
 
 pub returns-clause-result : goal.returns-clause-result
 unfolding accepted_reading reading_or_error
-returns-clause-result g c = order-kept c.args.self.now _ _ (whole g (goal.at.returns-clause-result g c).After-check_counts_in_order)
-    (rw (c.signatures-signatures.ensures.signatures, c.deref.ensures.value) at c.in_ok-check_counts_in_order.ensures.ok)
+returns-clause-result g c = search (rules, order-kept)
 
 pub returns-clause-order : goal.returns-clause-order
 returns-clause-order g c =

@@ -12,11 +12,7 @@ use Rattle.getopts.proofs.options.Options.read_matches.Goals as goal
 use Rattle.getopts.proofs.options.Options.read_matches.Goals.{then-counted+in_ok-check_counts, else-counted}
 
 pub scan-requires-clause-lawful : goal.scan-requires-clause-lawful
-scan-requires-clause-lawful g c = record {
-  declared = c.signatures-signatures.ensures.declared;
-  table = rw (c.signatures-signatures.ensures.signatures, names-signatures_of c.args.self.now.groups)
-      at c.in_ok-table.ensures;
-}
+scan-requires-clause-lawful g c = search (rules, names-signatures_of)
 
 pub returns-in_err-scan-clause-result : goal.returns-in_err-scan-clause-result
 unfolding reading_or_error

@@ -1,5 +1,4 @@
-use Rattle.std.proofs.Common.{◌≡◌, List, [], ◌∷◌, length, map, refl, ap, sym, ◌∙◌, arith}
-use Rattle.std.proofs.Common.{string_bytes, subst}
+use Rattle.std.proofs.Common.{◌≡◌, List, [], ◌∷◌, length, map, refl, ap, sym, ◌∙◌, arith, string_bytes, subst}
 use Rattle.std.proofs.lemmas.List.{map-append, take_all}
 use Rattle.getopts.specs.Only.{IsTheOnly}
 use Rattle.getopts.specs.Options.{Group}

@@ -1,12 +1,6 @@
 -- The long name is the second of the two texts of the record.
-use Rattle.std.proofs.Common.{arith}
-use Rattle.getopts.proofs.Stored.Signatures.{stored_at, record_within, names_at-signature}
+use Rattle.getopts.proofs.Stored.Signatures.{stored_at, names_at-signature}
 use Rattle.getopts.proofs.signatures.Signatures.long.Goals as goal
-
-pub index-requires : goal.index-requires
-index-requires c =
-    let within = record_within _ c.self.inside.records.items _ _ c.self.view_is c.requires in
-    omega (arith, within)
 
 pub second_at-requires : goal.second_at-requires
 second_at-requires c =

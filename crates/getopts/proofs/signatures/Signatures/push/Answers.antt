@@ -8,7 +8,6 @@ use Rattle.getopts.specs.Options.{Signature}
 use Rattle.getopts.specs.Stored.Signatures.{signature_with, signature_in, HasKeys, IsStored, ends_of}
 use Rattle.getopts.specs.declared.signatures.SignatureRecord.{SignatureRecord}
 use Rattle.getopts.proofs.Stored.Signatures.{signatures-push}
-use Rattle.getopts.proofs.Stored.Texts.{IsOfBytes-utf8}
 use Rattle.getopts.proofs.signatures.Signatures.push.Goals as goal
 
 -- the added record
@@ -27,12 +26,7 @@ abbrev signature : goal.After-push_reserved → Signature
 signature c = signature_with c.args.kinds c.args.short.now c.args.long.now
 
 items : (c : goal.After-push_reserved) → c.push_reserved.new.self.items ≡ c.self.inside.records.items ++ added c ∷ []
-items c =
-    search (
-      rules,
-      goal.then-is_empty+in_ok-reserve+in_ok-reserve-2,
-      goal.else-is_empty+in_ok-reserve-3+in_ok-reserve-4,
-    )
+items c = search rules
 
 -- the added texts
 abbrev more : goal.After-push_reserved → Text
@@ -40,26 +34,21 @@ more c = c.args.short.now ++ c.args.long.now
 
 text : (c : goal.After-push_reserved) → string_bytes c.push_pair-names.new.texts
     ≡ string_bytes c.self.inside.text ++ more c
-text c =
-    search (
-      rules,
-      goal.then-is_empty+in_ok-reserve+in_ok-reserve-2,
-      goal.else-is_empty+in_ok-reserve-3+in_ok-reserve-4,
-    )
+text c = search rules
 
 -- the names of the record are where they were put
 ends_are : (c : goal.After-push_reserved) → ends_of (added c) ≡ c.push_pair-names.result
-ends_are c = search (rules, IsOfBytes-utf8 c.args.short.now c.utf8.short)
+ends_are c = search rules
 
 signature_is : (c : goal.After-push_reserved)
     → signature_in (string_bytes c.push_pair-names.new.texts) (added c) ≡ signature c
-signature_is c = search (rules, ends_are)
+signature_is c = search rules
 
 main_is : (c : goal.After-push_reserved) → c.if-has_long.main.now ≡ main_name (signature c).names
-main_is c = search (rules, goal.then-has_long, goal.else-has_long)
+main_is c = search rules
 
 has_keys : (c : goal.After-push_reserved) → HasKeys (added c) (signature c).names
-has_keys c = search (rules, main_is)
+has_keys c = search rules
 
 last : (c : goal.After-push_reserved) → IsStored (string_bytes c.push_pair-names.new.texts) (added c)
 last c = search (rules, ends_are, signature_is, has_keys)

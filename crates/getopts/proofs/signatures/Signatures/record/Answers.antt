@@ -1,14 +1,9 @@
 -- A record has the keys and the kinds of its group, which is valid.
-use Rattle.std.proofs.Common.{arith, sym, ap}
+use Rattle.std.proofs.Common.{sym, ap}
 use Rattle.std.specs.Option.{option_map}
 use Rattle.getopts.specs.Stored.Signatures.{kinds_of}
-use Rattle.getopts.proofs.Stored.Signatures.{stored_at, record_within, names_at-signature}
+use Rattle.getopts.proofs.Stored.Signatures.{stored_at, names_at-signature}
 use Rattle.getopts.proofs.signatures.Signatures.record.Goals as goal
-
-pub index-requires : goal.index-requires
-index-requires c =
-    let within = record_within _ c.self.inside.records.items _ _ c.self.view_is c.requires in
-    omega (arith, within)
 
 pub returns-clause-keys : goal.returns-clause-keys
 returns-clause-keys c =

@@ -1,12 +1,6 @@
 -- The short name is the first of the two texts of the record.
-use Rattle.std.proofs.Common.{arith}
-use Rattle.getopts.proofs.Stored.Signatures.{stored_at, record_within, names_at-signature}
+use Rattle.getopts.proofs.Stored.Signatures.{stored_at, names_at-signature}
 use Rattle.getopts.proofs.signatures.Signatures.short.Goals as goal
-
-pub index-requires : goal.index-requires
-index-requires c =
-    let within = record_within _ c.self.inside.records.items _ _ c.self.view_is c.requires in
-    omega (arith, within)
 
 pub first_at-requires : goal.first_at-requires
 first_at-requires c =

@@ -2,7 +2,7 @@
 use Rattle.std.proofs.Common.{sym, ◌∙◌, ◌≡◌, true, map, List, [], ◌∷◌, rules}
 use Rattle.std.specs.Cmp.Lexicographic.{pointwise, pointwise_decides}
 use Rattle.std.specs.Option.{option_eq}
-use Rattle.std.proofs.lemmas.Bool.{not-true, not-false, and_parts}
+use Rattle.std.proofs.lemmas.Bool.{not-true, and_parts}
 use Rattle.std.proofs.lemmas.Slice.Eq.{bytes_eq-Decides}
 use Rattle.getopts.specs.Same.{same_signature}
 use Rattle.getopts.specs.Stored.Signatures.{signature_in, signature_view}
@@ -27,20 +27,17 @@ returns-then-ne c =
     ∙ sym (same_view c.get.result c.get-in-loop-place.result) ∙ not-true _ (sym c.ne.ensures ∙ c.if-ne.true)))
 
 pub loop-place-preserved : goal.loop-place-preserved
-loop-place-preserved c = search (rules, pointwise-take_more, not-false, same_view)
+loop-place-preserved c = search (rules, pointwise-take_more)
 
 -- `==` of kinds, records and lists of records is true only if they are the same
 kinds : (a b : Kinds) → kinds_eq.eq-value.it a b ≡ true → a ≡ b
 kinds a b same = search rules
 
-one : (a b : SignatureRecord) → record_eq.eq-value.it a b ≡ true → a ≡ b
-one a b same = search (rules, and_parts, kinds)
-
 all : (rs qs : List SignatureRecord) → pointwise record_eq.eq-value.it rs qs ≡ true → rs ≡ qs
 all [] [] same = search rules
 all [] (q ∷ qs) same = search rules
 all (r ∷ rs) [] same = search rules
-all (r ∷ rs) (q ∷ qs) same = search (rules, and_parts, one, all rs qs)
+all (r ∷ rs) (q ∷ qs) same = search (rules, and_parts, all rs qs)
 
 pub returns-then-eq-2 : goal.returns-then-eq-2
 returns-then-eq-2 c =
